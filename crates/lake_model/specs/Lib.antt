@@ -1,0 +1,11 @@
+pub mod Listing
+pub mod Versions
+pub mod Changes
+pub mod State
+pub mod Query
+pub mod Refusals
+pub mod Allowed
+pub mod Answers
+pub mod Following
+pub mod Replies
+pub mod Text

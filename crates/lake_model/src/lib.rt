@@ -1,0 +1,31 @@
+//! What the lake is: statements, replies, the entries of its chronicle, and the definitions of what is
+//! right. `specs/` says which chronicles are legal, which follow a script, and what is printed for them.
+#![tactic(auto)]
+
+mod bound;
+mod entries;
+mod expressions;
+mod listing;
+mod replies;
+mod reply_texts;
+mod scripts;
+mod statements;
+
+pub use bound::{
+    Bound, BoundAgg, BoundAggs, BoundExpr, BoundExprs, ExprLists, Key, Keys, Numbers, PairLists,
+    Pairs, Query, Schemas, Texts,
+};
+pub use entries::{
+    Added, AddedList, Cells16, Change, Chronicle, Entry, Fact, Mark, MarkedRow, MarkedRows, Marks,
+};
+pub use expressions::{Agg, ArithOp, CmpOp, Expr, Item, Items, Ref, Refs};
+pub use listing::in_row_order;
+pub use replies::{Failure, Refusal, Reply, Verb};
+pub use reply_texts::reply_text;
+pub use scripts::{Group, Numbered, Script, Step};
+pub use statements::{
+    Ons, OrderBy, OrderKey, OrderKeys, RefPairs, Select, Set, Sets, SourceRef, Sources, Statement,
+};
+
+#[cfg(test)]
+mod tests;

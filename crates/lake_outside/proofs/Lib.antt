@@ -1,0 +1,2 @@
+pub mod LastMove
+pub mod Taken

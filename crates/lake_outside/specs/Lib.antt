@@ -1,0 +1,4 @@
+pub mod Counts
+pub mod Plans
+pub mod Ports
+pub mod Streams

@@ -1,0 +1,164 @@
+-- How far a run of a script has come, and what a statement more makes of it.
+use Rattle.std.proofs.Common.{◌≡◌, ℕ, zero, suc, ◌+◌, ◌*◌, ◌<◌, ◌≤◌, List, [], ◌∷◌, ◌++◌, Option, length, take, drop, get_or, refl, sym, ap, ◌∙◌, subst, arith, append_assoc}
+use Rattle.std.specs.List.{AllByRecursion}
+use Rattle.std.specs.Io.KnownBytes.{Appends}
+use Rattle.std.proofs.lemmas.List.{append-nil, length-append, take-append-drop, take_all}
+use Rattle.std.proofs.lemmas.Grind.{flat_map-append}
+use Rattle.lake_model.specs.declared.entries.Entry.{Entry}
+use Rattle.lake_model.specs.declared.scripts.Numbered.{Numbered}
+use Rattle.lake_model.specs.declared.scripts.Step.{Step}
+use Rattle.lake_model.specs.declared.scripts.Step.TheVariants.{One}
+use Rattle.lake_model.specs.State.{state, stated}
+use Rattle.lake_model.specs.Allowed.{IsLegal}
+use Rattle.lake_model.specs.Following.{Follows, IsAnswered, statements}
+use Rattle.lake_model.specs.Text.{text, run_text}
+use Rattle.lake_model.proofs.Lists.{all_append, all_weaker}
+use Rattle.lake_model.proofs.Steps.{legal_more, follows_more, text_more, text_kept}
+use Rattle.lake_script.specs.Scripts.{AreNumbered}
+use Rattle.lake_script.specs.Headline.{HasRun, HasHalted, HasBegun}
+use Rattle.lake_script.specs.Steps.{RanStep, StoppedStep}
+use Rattle.lake_script.proofs.Streams.{appends_more, appends_none}
+
+-- the first `count` steps have run
+pub record Progress (before after : Option (List ℕ)) (entries : List Entry) (steps : List Step) (count : ℕ) : Type 0 where
+  pub legal : IsLegal entries
+  pub follows : Follows entries (take count steps)
+  pub text : Appends before after (text entries (take count steps))
+  pub numbered : AreNumbered (count + 1) (drop count steps)
+  pub below : AllByRecursion (λ m. m.place < count + 1) (statements (take count steps))
+  pub few : length entries ≤ 3 * count
+
+pub no_progress : (written : Option (List ℕ)) (steps : List Step) → AreNumbered 1 steps → Progress written written [] steps 0
+no_progress written steps numbered = record {
+  legal = tt;
+  follows = record { runs = tt; no_others = tt; order = tt };
+  text = appends_none written;
+  numbered = numbered;
+  below = tt;
+  few = omega arith;
+}
+
+take_next : (steps : List Step) (count : ℕ) (step : Step) → count < length steps → step ≡ get_or steps count step →
+    (take (count + 1) steps ≡ take count steps ++ step ∷ []) × (drop count steps ≡ step ∷ drop (count + 1) steps)
+take_next [] count step h e = absurd (omega arith)
+take_next (x ∷ steps) zero step h e = (ap (λ (s : Step). s ∷ []) (sym e), ap (λ (s : Step). s ∷ steps) (sym e))
+take_next (x ∷ steps) (suc count) step h e =
+    let next = take_next steps count step (omega arith) e in
+    let more : suc count + 1 ≡ suc (count + 1) = omega arith in (
+      ap (λ (k : ℕ). take k (x ∷ steps)) more ∙ ap (λ (xs : List Step). x ∷ xs) next.0,
+      next.1 ∙ ap (λ (k : ℕ). step ∷ drop k (x ∷ steps)) (sym more),
+    )
+
+-- what is left behind fewer than all
+some_left : (xs : List ℕ) (k : ℕ) → k < length xs → (y : ℕ) × (rest : List ℕ) × (drop k xs ≡ y ∷ rest)
+some_left [] k h = absurd (omega arith)
+some_left (x ∷ xs) zero h = (x, xs, refl)
+some_left (x ∷ xs) (suc k) h = some_left xs k (omega arith)
+
+module _ (before middle after : Option (List ℕ)) (old new : List Entry) (steps : List Step) (count : ℕ) (n : Numbered)
+    (so_far : Progress before middle old steps count) (h : count < length steps) (is : One n ≡ get_or steps count (One n)) where
+  done_now : take (count + 1) steps ≡ take count steps ++ One n ∷ []
+  done_now = (take_next steps count (One n) h is).0
+
+  left_now : drop count steps ≡ One n ∷ drop (count + 1) steps
+  left_now = (take_next steps count (One n) h is).1
+
+  numbered_now : AreNumbered (count + 1) (One n ∷ drop (count + 1) steps)
+  numbered_now = let P : List Step → Type 0 = λ xs. AreNumbered (count + 1) xs in subst P left_now so_far.numbered
+
+  below_now : AllByRecursion (λ m. m.place < n.place) (statements (take count steps))
+  below_now = all_weaker (statements (take count steps)) (λ m less. omega (arith, less, numbered_now.0)) so_far.below
+
+  pub one_more : RanStep old new n middle after → Progress before after new steps (count + 1)
+  one_more ran =
+      let P : List Entry → Type 0 = λ es. Progress before after es steps (count + 1) in
+      subst P (sym ran.added) record {
+        legal = legal_more old ran.run (take count steps) n so_far.follows below_now ran.answered so_far.legal;
+        follows = (let Q : List Step → Type 0 = λ xs. Follows (old ++ ran.run) xs in
+            subst Q (sym done_now) (follows_more old ran.run (take count steps) n so_far.follows below_now ran.answered));
+        text = (let Q : List ℕ → Type 0 = λ bytes. Appends before after bytes in
+            subst Q (sym (ap (text (old ++ ran.run)) done_now ∙ text_more old ran.run (take count steps) n so_far.follows below_now ran.answered))
+            (appends_more before middle after _ _ so_far.text ran.written));
+        numbered = numbered_now.3;
+        below = (let Q : List Numbered → Type 0 = λ ns. AllByRecursion (λ m. m.place < count + 1 + 1) ns in
+            subst Q (sym (ap statements done_now ∙ flat_map-append _ (take count steps) (One n ∷ [])))
+            (all_append _ (statements (take count steps)) (n ∷ []) (all_weaker (statements (take count steps)) (λ m less. omega (arith, less)) so_far.below) (omega (arith, numbered_now.0), tt)));
+        few = omega (arith, so_far.few, ran.few, length-append old ran.run);
+      }
+
+  first_steps : steps ≡ (take count steps ++ One n ∷ []) ++ drop (count + 1) steps
+  first_steps = sym (ap (λ (xs : List Step). xs ++ drop (count + 1) steps) (sym done_now) ∙ take-append-drop (count + 1) steps)
+
+  -- the text with the statement: what was written before, and its reply
+  text_now : (run : List Entry) → IsAnswered (state old) n run → text (old ++ run) (take count steps ++ One n ∷ []) ≡ text old (take count steps) ++ run_text n.place (stated (state old) run)
+  text_now run answered = text_more old run (take count steps) n so_far.follows below_now answered
+
+  pub halts : StoppedStep ◌<◌ old new n middle after → HasHalted before after new steps
+  halts stopped =
+      let reply : List ℕ = run_text n.place (stated (state old) stopped.run) in
+      let left = some_left reply stopped.taken stopped.within in
+      let P : List Entry → Type 0 = λ es. HasHalted before after es steps in
+      subst P (sym stopped.added) record {
+        done = take count steps;
+        last = One n;
+        rest = drop (count + 1) steps;
+        first = first_steps ∙ append_assoc (take count steps) (One n ∷ []) (drop (count + 1) steps);
+        legal = legal_more old stopped.run (take count steps) n so_far.follows below_now stopped.answered so_far.legal;
+        follows = follows_more old stopped.run (take count steps) n so_far.follows below_now stopped.answered;
+        written = text old (take count steps) ++ take stopped.taken reply;
+        appended = appends_more before middle after _ _ so_far.text stopped.written;
+        at_least = (
+          take stopped.taken reply,
+          ap (λ (bytes : List ℕ). bytes ++ take stopped.taken reply) (sym (text_kept old stopped.run (take count steps) n so_far.follows below_now stopped.answered)),
+        );
+        less = (
+          left.0,
+          left.1,
+          text_now stopped.run stopped.answered
+              ∙ ap (λ (bytes : List ℕ). text old (take count steps) ++ bytes) (sym (take-append-drop stopped.taken reply) ∙ ap (λ (bytes : List ℕ). take stopped.taken reply ++ bytes) left.2)
+              ∙ sym (append_assoc (text old (take count steps)) (take stopped.taken reply) (left.0 ∷ left.1)),
+        );
+      }
+
+  pub begins : StoppedStep ◌≤◌ old new n middle after → HasBegun before after steps
+  begins stopped =
+      let reply : List ℕ = run_text n.place (stated (state old) stopped.run) in
+      record {
+        done = take count steps ++ One n ∷ [];
+        rest = drop (count + 1) steps;
+        first = first_steps;
+        entries = old ++ stopped.run;
+        legal = legal_more old stopped.run (take count steps) n so_far.follows below_now stopped.answered so_far.legal;
+        follows = follows_more old stopped.run (take count steps) n so_far.follows below_now stopped.answered;
+        written = text old (take count steps) ++ take stopped.taken reply;
+        appended = appends_more before middle after _ _ so_far.text stopped.written;
+        part = (
+          drop stopped.taken reply,
+          text_now stopped.run stopped.answered
+              ∙ ap (λ (bytes : List ℕ). text old (take count steps) ++ bytes) (sym (take-append-drop stopped.taken reply))
+              ∙ sym (append_assoc (text old (take count steps)) (take stopped.taken reply) (drop stopped.taken reply)),
+        );
+      }
+
+  pub begins_before : middle ≡ after → HasBegun before after steps
+  begins_before same = record {
+    done = take count steps;
+    rest = drop count steps;
+    first = sym (take-append-drop count steps);
+    entries = old;
+    legal = so_far.legal;
+    follows = so_far.follows;
+    written = text old (take count steps);
+    appended = (let P : Option (List ℕ) → Type 0 = λ o. Appends before o (text old (take count steps)) in subst P same so_far.text);
+    part = ([], sym (append-nil (text old (take count steps))));
+  }
+
+-- all steps have run
+pub has_run : (before after : Option (List ℕ)) (entries : List Entry) (steps : List Step) (count : ℕ) → Progress before after entries steps count → length steps ≤ count → HasRun before after entries steps
+has_run before after entries steps count so_far h =
+    let all : take count steps ≡ steps = take_all count steps h in
+    record {
+      legal = so_far.legal;
+      follows = (let P : List Step → Type 0 = λ xs. Follows entries xs in subst P all so_far.follows);
+      text = (let P : List Step → Type 0 = λ xs. Appends before after (text entries xs) in subst P all so_far.text);
+    }

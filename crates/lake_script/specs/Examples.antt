@@ -1,0 +1,59 @@
+-- A worked example: a script and the chronicle of its run.
+use Rattle.std.specs.Prelude.{ℕ, false, pos, List, [], ◌∷◌, None, codes}
+use Rattle.lake_values.specs.declared.schemas.ColType.TheVariants.{Int as IntType}
+use Rattle.lake_values.specs.declared.schemas.Column.{Column}
+use Rattle.lake_values.specs.declared.values.Value.{Value}
+use Rattle.lake_values.specs.declared.values.Value.TheVariants.{Int}
+use Rattle.lake_model.specs.declared.entries.Entry.{Entry}
+use Rattle.lake_model.specs.declared.entries.Fact.{Fact}
+use Rattle.lake_model.specs.declared.entries.Fact.TheVariants as fact
+use Rattle.lake_model.specs.declared.replies.Reply.TheVariants as reply
+use Rattle.lake_model.specs.declared.replies.Verb.TheVariants.{Inserted}
+use Rattle.lake_model.specs.declared.scripts.Step.{Step}
+use Rattle.lake_model.specs.declared.statements.Statement.TheVariants.{Create, Insert, Select}
+use Rattle.lake_model.specs.Changes.{no_change}
+use Rattle.lake_script.specs.Scripts.{query_of, step_of}
+
+abbrev pub row : ℕ → List Value
+row n = Int (pos n) ∷ []
+
+abbrev pub columns : List Column
+columns = record { name = codes "a"; kind = IntType } ∷ []
+
+abbrev pub bytes : List ℕ
+bytes = codes "CREATE TABLE t (a INT); INSERT INTO t VALUES (2), (1), (1); SELECT * FROM t;"
+
+abbrev pub steps : List Step
+steps =
+    step_of 1 (Create (codes "t") columns None) ∷ step_of 2 (Insert (codes "t") (row 2 ∷ row 1 ∷ row 1 ∷ []))
+    ∷ step_of 3 (Select (query_of (codes "t"))) ∷ []
+
+abbrev pub entry_at : ℕ → Fact → Entry
+entry_at place f = record { session = 1; place = place; fact = f }
+
+-- each statement with the entries that it adds: the table is created as version 1; the rows are added in a
+-- transaction of their own, which becomes version 2; and a second transaction answers the query
+abbrev pub entries : List Entry
+entries =
+    entry_at 1 (fact.Created (codes "t") (record { columns = columns; distribution = 0 }) 1)
+    ∷ entry_at 2 (fact.Began false 1 1)
+    ∷ entry_at 2 (fact.Ran (reply.Wrote Inserted 3 None)
+    (record { removed = []; added = record { table = codes "t"; part = 1; rows = row 1 ∷ row 1 ∷ row 2 ∷ [] } ∷ [] }))
+    ∷ entry_at 2 (fact.Committed 2 [] [])
+    ∷ entry_at 3 (fact.Began false 2 2)
+    ∷ entry_at 3 (fact.Ran (reply.Rows (row 1 ∷ row 1 ∷ row 2 ∷ [])) no_change)
+    ∷ entry_at 3 fact.Ended
+    ∷ []
+
+-- what is no chronicle of the script: the query answers without the second 1
+abbrev pub entries_without_a_row : List Entry
+entries_without_a_row =
+    entry_at 1 (fact.Created (codes "t") (record { columns = columns; distribution = 0 }) 1)
+    ∷ entry_at 2 (fact.Began false 1 1)
+    ∷ entry_at 2 (fact.Ran (reply.Wrote Inserted 3 None)
+    (record { removed = []; added = record { table = codes "t"; part = 1; rows = row 1 ∷ row 1 ∷ row 2 ∷ [] } ∷ [] }))
+    ∷ entry_at 2 (fact.Committed 2 [] [])
+    ∷ entry_at 3 (fact.Began false 2 2)
+    ∷ entry_at 3 (fact.Ran (reply.Rows (row 1 ∷ row 2 ∷ [])) no_change)
+    ∷ entry_at 3 fact.Ended
+    ∷ []

@@ -1,0 +1,197 @@
+ghost use Rattle.std.specs.Prelude.{◌≡◌, ◌^◌, ◌<◌, ◌≤◌, ◌⊎◌, ◌↔◌, List, ℕ, [], None, Some, length, map, IsSome, IsSomeAnd, is_some, OnOk, IsErrOf, vec_len};
+ghost use Rattle.std.specs.String.{string_bytes};
+ghost use Rattle.lake_outside.specs.Counts.{Rises};
+ghost use Rattle.lake_model.specs.declared.scripts.Step.{Step as ScriptStep};
+ghost use Rattle.lake_model.specs.Allowed.{IsLegal};
+ghost use Rattle.lake_model.specs.Following.{Follows};
+ghost use Rattle.lake_script.specs.Commands.{IsCommand};
+ghost use Rattle.lake_script.specs.Scripts.{IsReadable, AreNumbered, script_of};
+ghost use Rattle.lake_script.specs.Headline.{HasRead, HasRun, HasHalted, HasBegun, ReadsScript, ReadsNoScript, WritesPart, EndsAs, IsQuiet, first_place};
+ghost use Rattle.lake_script.specs.Steps.{RanStep, StoppedStep};
+
+use crate::lakes::LakeState;
+use crate::parsing::{Unread, parse_script};
+use crate::reading::{ReadEnd, read_all};
+use crate::status::{ParseKind, ScriptBad, Status};
+use crate::words::is_command;
+use crate::writing::{RunEnd, put_all};
+use lake_model::{Numbered, Script, Step, reply_text};
+use lake_outside::{Gate, Port, Sink, Source};
+use std::alloc::Global;
+
+/// How a run ended, with the lake that it leaves.
+#[derive(Drop)]
+pub struct Ended<P: Port> {
+    pub status: Status,
+    /// The lake where the run came to its end, and where the sink failed.
+    pub lake: Option<LakeState<P>>,
+}
+
+/// Runs the script that the source gives over a new lake, and writes a reply for each statement.
+///
+/// The words are a command: so far `run` alone. `ports` are the ways to the store: the first is kept for
+/// what comes later, the next 16 are those of the sessions and the 16 behind them those of the servers. No
+/// statement needs them yet, nor the gate.
+///
+/// `Done` says that every statement has its reply. Then the lake's chronicle is legal, follows the script
+/// and has the text that was written; `docs/THEOREM.md` explains these words. Every other status comes for
+/// its own cause alone, but for want of memory, which may come at any place.
+pub fn lake_run<S: Source, K: Sink, P: Port, G: Gate>(
+    alloc: Global,
+    words: &Vec<String>,
+    src: &mut S,
+    out: &mut K,
+    ports: &mut Vec<P>,
+    gate: &G,
+) -> Ended<P>
+    requires { 33 ≤ vec_len ports.old }
+
+    ensures legal { result.status ≡ Status.Done → IsSomeAnd result.lake IsLegal }
+    ensures follows { result.status ≡ Status.Done → IsSomeAnd result.lake
+        (λ entries. ReadsScript (λ steps. Follows entries steps) (S.left src.old) (S.left src.new)) }
+    ensures text { result.status ≡ Status.Done → IsSomeAnd result.lake
+        (λ entries. ReadsScript (HasRun (K.written out.old) (K.written out.new) entries) (S.left src.old) (S.left src.new)) }
+
+    ensures usage { (result.status ≡ Status.Usage) ↔ (¬ IsCommand (map string_bytes words.now.items)) }
+    ensures read_fault { result.status ≡ Status.ReadFault → Rises (S.faults src.old) (S.faults src.new) }
+    ensures read_fault_within { result.status ≡ Status.ReadFault → HasRead (λ n. n ≤ 16777216) (S.left src.old) (S.left src.new) }
+    ensures too_long { result.status ≡ Status.TooLong → HasRead (λ n. 16777216 < n) (S.left src.old) (S.left src.new) }
+    ensures refused_at { (bad : _) → result.status ≡ Status.ScriptRefused bad → bad ≡ first_place }
+    ensures refused { (bad : _) → result.status ≡ Status.ScriptRefused bad → ReadsNoScript (S.left src.old) (S.left src.new) }
+    ensures write_fault { result.status ≡ Status.WriteFault → Rises (K.faults out.old) (K.faults out.new) ⊎ Rises (K.idle out.old) (K.idle out.new) }
+    ensures halted { result.status ≡ Status.WriteFault → IsSomeAnd result.lake
+        (λ entries. ReadsScript (HasHalted (K.written out.old) (K.written out.new) entries) (S.left src.old) (S.left src.new)) }
+    ensures no_memory { result.status ≡ Status.NoMemory → WritesPart (S.left src.old) (S.left src.new) (K.written out.old) (K.written out.new) }
+
+    ensures lake { IsSome result.lake ↔ ((result.status ≡ Status.Done) ⊎ (result.status ≡ Status.WriteFault)) }
+    ensures quiet { IsQuiet result.status → out.new ≡ out.old }
+    ensures unread { result.status ≡ Status.Usage → src.new ≡ src.old }
+    ensures ports { ports.new ≡ ports.old }
+
+    // Where nothing fails, a source that tells its bytes is run to the end, if they are a script within the
+    // limit.
+    ensures completes { (bytes : List ℕ) (steps : List ScriptStep) → S.left src.old ≡ Some bytes → length bytes ≤ 16777216 → script_of bytes ≡ Some steps
+        → IsCommand (map string_bytes words.now.items) → (¬ Rises (S.faults src.old) (S.faults src.new))
+        → (¬ Rises (K.faults out.old) (K.faults out.new)) → (¬ Rises (K.idle out.old) (K.idle out.new))
+        → (result.status ≡ Status.Done) ⊎ (result.status ≡ Status.NoMemory) }
+{
+    run_words(alloc, words, src, out)
+}
+
+fn run_words<S: Source, K: Sink, P: Port>(
+    alloc: Global,
+    words: &Vec<String>,
+    src: &mut S,
+    out: &mut K,
+) -> Ended<P>
+    ensures ends { EndsAs (record {
+      left_before = S.left src.old;
+      left_after = S.left src.new;
+      source_before = S.faults src.old;
+      source_after = S.faults src.new;
+      written_before = K.written out.old;
+      written_after = K.written out.new;
+      sink_before = K.faults out.old;
+      sink_after = K.faults out.new;
+      idle_before = K.idle out.old;
+      idle_after = K.idle out.new;
+    }) (map string_bytes words.now.items) result.status result.lake }
+    ensures quiet { IsQuiet result.status → out.new ≡ out.old }
+    ensures unread { result.status ≡ Status.Usage → src.new ≡ src.old }
+{
+    if !is_command(words) {
+        return without_lake(Status::Usage);
+    }
+    let bytes = match read_all(alloc, src) {
+        Ok(bytes) => bytes,
+        Err(ReadEnd::Fault) => return without_lake(Status::ReadFault),
+        Err(ReadEnd::TooLong) => return without_lake(Status::TooLong),
+        Err(ReadEnd::NoMemory) => return without_lake(Status::NoMemory),
+    };
+    let script = match parse_script(alloc, bytes.as_slice()) {
+        Ok(script) => script,
+        Err(Unread::Refused) => return without_lake(Status::ScriptRefused(FIRST_PLACE)),
+        Err(Unread::NoMemory) => return without_lake(Status::NoMemory),
+    };
+    let Ok(mut lake) = LakeState::new(alloc) else {
+        return without_lake(Status::NoMemory);
+    };
+    match run_all(alloc, &mut lake, &script, out) {
+        Ok(()) => with_lake(Status::Done, lake),
+        Err(RunEnd::WriteFault) => with_lake(Status::WriteFault, lake),
+        Err(RunEnd::NoMemory) => without_lake(Status::NoMemory),
+    }
+}
+
+/// Where bytes that are no script are refused.
+const FIRST_PLACE: ScriptBad = ScriptBad {
+    line: 1,
+    column: 1,
+    kind: ParseKind::Syntax,
+};
+
+fn with_lake<P: Port>(status: Status, lake: LakeState<P>) -> Ended<P>
+    ensures status { result.status ≡ status }
+    ensures lake { result.lake ≡ Some lake }
+{
+    Ended {
+        status,
+        lake: Some(lake),
+    }
+}
+
+fn without_lake<P: Port>(status: Status) -> Ended<P>
+    ensures status { result.status ≡ status }
+    ensures lake { result.lake ≡ None }
+{
+    Ended { status, lake: None }
+}
+
+/// Runs a statement and writes its reply.
+fn run_step<K: Sink, P: Port>(
+    alloc: Global,
+    lake: &mut LakeState<P>,
+    n: &Numbered,
+    out: &mut K,
+) -> Result<(), RunEnd>
+    requires room { length lake.old < 2 ^ 62 }
+    requires first { n.now.session ≡ 1 }
+    requires readable { IsReadable n.now.statement }
+    ensures ok { OnOk result (RanStep lake.old lake.new n.now (K.written out.old) (K.written out.new)) }
+    ensures stopped { IsErrOf result RunEnd.WriteFault → StoppedStep ◌<◌ lake.old lake.new n.now (K.written out.old) (K.written out.new) }
+    ensures no_memory { IsErrOf result RunEnd.NoMemory → ((lake.new ≡ lake.old) × (out.new ≡ out.old))
+        ⊎ StoppedStep ◌≤◌ lake.old lake.new n.now (K.written out.old) (K.written out.new) }
+    ensures fault { IsErrOf result RunEnd.WriteFault → Rises (K.faults out.old) (K.faults out.new) ⊎ Rises (K.idle out.old) (K.idle out.new) }
+    ensures faults_never_fall { K.faults out.old ≤ K.faults out.new }
+    ensures idle_never_falls { K.idle out.old ≤ K.idle out.new }
+{
+    let reply = lake.run(alloc, n)?;
+    let mut text = Vec::new(alloc);
+    reply_text(n.place, &reply, &mut text)?;
+    put_all(out, text.as_slice())
+}
+
+/// Runs the steps of a script over a lake without entries.
+pub fn run_all<K: Sink, P: Port>(
+    alloc: Global,
+    lake: &mut LakeState<P>,
+    script: &Script,
+    out: &mut K,
+) -> Result<(), RunEnd>
+    requires new { lake.old ≡ [] }
+    requires few { length script.now ≤ 16777216 }
+    requires numbered { AreNumbered 1 script.now }
+    ensures ok { OnOk result (HasRun (K.written out.old) (K.written out.new) lake.new script.now) }
+    ensures halted { IsErrOf result RunEnd.WriteFault → HasHalted (K.written out.old) (K.written out.new) lake.new script.now }
+    ensures no_memory { IsErrOf result RunEnd.NoMemory → HasBegun (K.written out.old) (K.written out.new) script.now }
+    ensures fault { IsErrOf result RunEnd.WriteFault → Rises (K.faults out.old) (K.faults out.new) ⊎ Rises (K.idle out.old) (K.idle out.new) }
+{
+    let steps = script.as_slice();
+    for step in steps {
+        let Step::One(n) = step else { unreachable!() };
+        if let Err(end) = run_step(alloc, lake, n, out) {
+            return Err(end);
+        }
+    }
+    Ok(())
+}

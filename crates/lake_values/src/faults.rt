@@ -1,0 +1,53 @@
+use crate::NoMemory;
+
+/// Why bytes aren't a spelling.
+#[derive(Clone, Copy, Debug, PartialEq, Eq)]
+pub enum BadKind {
+    /// The field needs more bytes than are left.
+    Short,
+    /// A magic, a kind, a flag or a tag isn't one of those allowed there.
+    BadTag,
+    /// The bytes of a text aren't UTF-8.
+    BadUtf8,
+    /// Bytes stand behind the last field.
+    Trailing,
+    /// A number is out of its range, or an element breaks the order that its format asks for.
+    NotCanonical,
+}
+
+/// The first field that no value has after the fields before it.
+#[derive(Clone, Copy, Debug, PartialEq, Eq)]
+pub struct Bad {
+    /// The offset of the field's first byte.
+    pub place: u64,
+    pub kind: BadKind,
+}
+
+/// Why a decoder answered no value.
+#[derive(Clone, Copy, Debug, PartialEq, Eq)]
+pub enum DecodeFault {
+    Bad(Bad),
+    NoMemory,
+}
+
+impl From<Bad> for DecodeFault {
+    ghost use Rattle.std.specs.Prelude.{◌≡◌};
+    ghost use Rattle.lake_values.specs.declared.faults.DecodeFault.TheVariants.{Bad as BadField};
+
+    ghost from_gives = { λ bad fault. fault ≡ BadField bad };
+
+    fn from(bad: Bad) -> DecodeFault {
+        DecodeFault::Bad(bad)
+    }
+}
+
+impl From<NoMemory> for DecodeFault {
+    ghost use Rattle.std.specs.Prelude.{◌≡◌};
+    ghost use Rattle.lake_values.specs.declared.faults.DecodeFault.TheVariants.{NoMemory as OutOfMemory};
+
+    ghost from_gives = { λ _ fault. fault ≡ OutOfMemory };
+
+    fn from(_refused: NoMemory) -> DecodeFault {
+        DecodeFault::NoMemory
+    }
+}

@@ -1,0 +1,14 @@
+pub mod ClassLemmas
+pub mod Firsts
+pub mod Kept
+pub mod Levels
+pub mod ListLemmas
+pub mod Lists
+pub mod Local
+pub mod Places
+pub mod Refused
+pub mod Samples
+pub mod Sound
+pub mod Steps
+pub mod Theorems
+pub mod Whole

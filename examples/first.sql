@@ -1,0 +1,3 @@
+CREATE TABLE t (a INT);
+INSERT INTO t VALUES (2), (1), (1);
+SELECT * FROM t;
