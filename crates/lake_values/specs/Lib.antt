@@ -1,3 +1,6 @@
+pub mod Cells
 pub mod Order
 pub mod Print
+pub mod Reading
 pub mod Schemas
+pub mod Spelling

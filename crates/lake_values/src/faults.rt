@@ -1,4 +1,7 @@
+ghost use Rattle.std.specs.Prelude.{◌≡◌};
+
 use crate::NoMemory;
+use std::alloc::{AllocError, AllocFailed};
 
 /// Why bytes aren't a spelling.
 #[derive(Clone, Copy, Debug, PartialEq, Eq)]
@@ -21,6 +24,19 @@ pub struct Bad {
     /// The offset of the field's first byte.
     pub place: u64,
     pub kind: BadKind,
+}
+
+impl Bad {
+    /// A field that is bad in this way at a place of the bytes.
+    pub fn at(place: usize, kind: BadKind) -> Bad
+        ensures place { result.place ≡ place }
+        ensures kind { result.kind ≡ kind }
+    {
+        Bad {
+            place: place as u64,
+            kind,
+        }
+    }
 }
 
 /// Why a decoder answered no value.
@@ -48,6 +64,28 @@ impl From<NoMemory> for DecodeFault {
     ghost from_gives = { λ _ fault. fault ≡ OutOfMemory };
 
     fn from(_refused: NoMemory) -> DecodeFault {
+        DecodeFault::NoMemory
+    }
+}
+
+impl From<AllocError> for DecodeFault {
+    ghost use Rattle.std.specs.Prelude.{◌≡◌};
+    ghost use Rattle.lake_values.specs.declared.faults.DecodeFault.TheVariants.{NoMemory as OutOfMemory};
+
+    ghost from_gives = { λ _ fault. fault ≡ OutOfMemory };
+
+    fn from(_refused: AllocError) -> DecodeFault {
+        DecodeFault::NoMemory
+    }
+}
+
+impl<T: Drop> From<AllocFailed<T>> for DecodeFault {
+    ghost use Rattle.std.specs.Prelude.{◌≡◌};
+    ghost use Rattle.lake_values.specs.declared.faults.DecodeFault.TheVariants.{NoMemory as OutOfMemory};
+
+    ghost from_gives = { λ _ fault. fault ≡ OutOfMemory };
+
+    fn from(_refused: AllocFailed<T>) -> DecodeFault {
         DecodeFault::NoMemory
     }
 }

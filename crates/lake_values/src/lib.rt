@@ -4,27 +4,41 @@
 //! contracts as the list of its members, so two of them are equal where their members are.
 #![tactic(auto)]
 
+mod cells;
 mod faults;
+mod fields;
+mod laws;
 mod lists;
 mod memory;
 mod names;
 mod order;
 mod print;
+mod read;
 mod rows;
 mod schemas;
 mod texts;
 mod values;
+mod write;
 
+pub use cells::cell_of;
 pub use faults::{Bad, BadKind, DecodeFault};
+pub use fields::{
+    check_left, check_room, read_byte, read_bytes, read_magic, read_utf8, short_text,
+};
+pub use laws::{one_name_spelling, one_text_spelling, one_value_spelling};
 pub use lists::Listed;
 pub use memory::NoMemory;
 pub use names::{Kind, Name, Names};
 pub use order::compare_values;
 pub use print::row_text;
+pub use read::{read_end, read_name, read_text, read_u32, read_u64, read_value};
 pub use rows::{Row, Rows, compare_rows, copy_rows};
 pub use schemas::{ColType, Column, Columns, Schema, copy_columns};
 pub use texts::{Text, TextFault};
 pub use values::{Value, ValueRef};
+pub use write::{write_name, write_text, write_u32, write_u64, write_value};
 
+#[cfg(test)]
+mod format_tests;
 #[cfg(test)]
 mod tests;

@@ -75,7 +75,8 @@ impl Schema {
     }
 
     pub fn columns(&self) -> &[Column]
-        ensures { result.now ≡ self.now.columns }
+        ensures list { result.now ≡ self.now.columns }
+        ensures is_schema { IsSchema result.now self.now.distribution }
     {
         self.columns.as_slice()
     }

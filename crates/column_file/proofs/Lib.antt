@@ -1,0 +1,5 @@
+pub mod ColumnTies
+pub mod FileTie
+pub mod LentColumns
+pub mod Rows
+pub mod TextTies

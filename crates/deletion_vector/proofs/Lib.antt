@@ -1,0 +1,3 @@
+pub mod Ascending
+pub mod Merging
+pub mod VectorTie

@@ -1,0 +1,14 @@
+use Rattle.deletion_vector.proofs.Ascending.{placed, present, absent}
+use Rattle.deletion_vector.proofs.merge.place_of.Goals as goal
+
+pub returns-clause-found : goal.returns-clause-found
+returns-clause-found c = (placed c.args.position c.args.positions.now c.binary_search.result c.requires c.binary_search.ensures.position).0
+
+pub returns-clause-below : goal.returns-clause-below
+returns-clause-below c = (absent c.args.position c.args.positions.now c.binary_search.result (placed c.args.position c.args.positions.now c.binary_search.result c.requires c.binary_search.ensures.position).1).0
+
+pub returns-clause-above : goal.returns-clause-above
+returns-clause-above c = (absent c.args.position c.args.positions.now c.binary_search.result (placed c.args.position c.args.positions.now c.binary_search.result c.requires c.binary_search.ensures.position).1).1
+
+pub returns-clause-place : goal.returns-clause-place
+returns-clause-place c = present c.args.position c.args.positions.now c.binary_search.result c.requires c.binary_search.ensures.position
