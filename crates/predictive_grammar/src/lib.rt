@@ -10,7 +10,7 @@
 //!
 //! The functions below have no work to do: each states laws of these definitions, for every language, in its
 //! contract. A language is a type with a definition (`specs/Definitions`), of which `specs/Sums` is an example.
-//! No edit of their bodies can turn what they mean, so this crate has no edits that a check must refuse.
+//! No edit of their bodies can turn what they mean, so the edits that a check must refuse turn the reader.
 #![tactic(auto)]
 
 ghost use Rattle.predictive_grammar.specs.Definitions.{Definition, IsPredictive};
