@@ -14,7 +14,7 @@ use Rattle.lake_model.specs.Following.{Follows, IsAnswered, statements}
 use Rattle.lake_model.specs.Text.{text, run_text}
 use Rattle.lake_model.proofs.Lists.{all_append, all_weaker}
 use Rattle.lake_model.proofs.Steps.{legal_more, follows_more, text_more, text_kept}
-use Rattle.lake_script.specs.Scripts.{AreNumbered}
+use Rattle.lake_script.specs.Scripts.{AreInTurn}
 use Rattle.lake_script.specs.Headline.{HasRun, HasHalted, HasBegun}
 use Rattle.lake_script.specs.Steps.{RanStep, StoppedStep}
 use Rattle.lake_script.proofs.Streams.{appends_more, appends_none}
@@ -24,11 +24,11 @@ pub record Progress (before after : Option (List ℕ)) (entries : List Entry) (s
   pub legal : IsLegal entries
   pub follows : Follows entries (take count steps)
   pub text : Appends before after (text entries (take count steps))
-  pub numbered : AreNumbered (count + 1) (drop count steps)
+  pub numbered : AreInTurn (count + 1) (drop count steps)
   pub below : AllByRecursion (λ m. m.place < count + 1) (statements (take count steps))
   pub few : length entries ≤ 3 * count
 
-pub no_progress : (written : Option (List ℕ)) (steps : List Step) → AreNumbered 1 steps → Progress written written [] steps 0
+pub no_progress : (written : Option (List ℕ)) (steps : List Step) → AreInTurn 1 steps → Progress written written [] steps 0
 no_progress written steps numbered = record {
   legal = tt;
   follows = record { runs = tt; no_others = tt; order = tt };
@@ -63,8 +63,8 @@ module _ (before middle after : Option (List ℕ)) (old new : List Entry) (steps
   left_now : drop count steps ≡ One n ∷ drop (count + 1) steps
   left_now = (take_next steps count (One n) h is).1
 
-  numbered_now : AreNumbered (count + 1) (One n ∷ drop (count + 1) steps)
-  numbered_now = let P : List Step → Type 0 = λ xs. AreNumbered (count + 1) xs in subst P left_now so_far.numbered
+  numbered_now : AreInTurn (count + 1) (One n ∷ drop (count + 1) steps)
+  numbered_now = let P : List Step → Type 0 = λ xs. AreInTurn (count + 1) xs in subst P left_now so_far.numbered
 
   below_now : AllByRecursion (λ m. m.place < n.place) (statements (take count steps))
   below_now = all_weaker (statements (take count steps)) (λ m less. omega (arith, less, numbered_now.0)) so_far.below

@@ -1,5 +1,5 @@
 -- A worked example: a script and the chronicle of its run.
-use Rattle.std.specs.Prelude.{ℕ, false, pos, List, [], ◌∷◌, None, codes}
+use Rattle.std.specs.Prelude.{ℕ, true, false, pos, List, [], ◌∷◌, None, codes}
 use Rattle.lake_values.specs.declared.schemas.ColType.TheVariants.{Int as IntType}
 use Rattle.lake_values.specs.declared.schemas.Column.{Column}
 use Rattle.lake_values.specs.declared.values.Value.{Value}
@@ -12,13 +12,29 @@ use Rattle.lake_model.specs.declared.replies.Verb.TheVariants.{Inserted}
 use Rattle.lake_model.specs.declared.scripts.Step.{Step}
 use Rattle.lake_model.specs.declared.statements.Statement.TheVariants.{Create, Insert, Select}
 use Rattle.lake_model.specs.Changes.{no_change}
-use Rattle.lake_script.specs.Scripts.{query_of, step_of}
+use Rattle.lake_model.specs.declared.statements.Select.{Select as Query}
+use Rattle.sql_tokens.specs.declared.faults.ParseKind.TheVariants.{Syntax}
+use Rattle.sql_tokens.specs.declared.faults.ScriptBad.{ScriptBad}
+use Rattle.sql_parser.specs.Grammar.{step_of}
 
 abbrev pub row : ℕ → List Value
 row n = Int (pos n) ∷ []
 
 abbrev pub columns : List Column
 columns = record { name = codes "a"; kind = IntType } ∷ []
+
+-- all columns of one table
+abbrev pub query_of : List ℕ → Query
+query_of table = record {
+  star = true;
+  items = [];
+  sources = record { table = table; name = table } ∷ [];
+  ons = [];
+  filter = None;
+  groups = [];
+  order = [];
+  limit = None;
+}
 
 abbrev pub bytes : List ℕ
 bytes = codes "CREATE TABLE t (a INT); INSERT INTO t VALUES (2), (1), (1); SELECT * FROM t;"
@@ -57,3 +73,7 @@ entries_without_a_row =
     ∷ entry_at 3 (fact.Ran (reply.Rows (row 1 ∷ row 2 ∷ [])) no_change)
     ∷ entry_at 3 fact.Ended
     ∷ []
+
+-- what is no script, in line 1 at this column
+abbrev pub syntax_at : ℕ → ScriptBad
+syntax_at column = record { line = 1; column = column; kind = Syntax }

@@ -1,5 +1,5 @@
 -- What a run of a script has done when it ends.
-use Rattle.std.specs.Prelude.{◌≡◌, ◌<◌, ◌≤◌, ◌⊎◌, ℕ, List, [], ◌∷◌, ◌++◌, Option, None, Some, length, IsSomeAnd}
+use Rattle.std.specs.Prelude.{◌≡◌, ◌<◌, ◌≤◌, ◌⊎◌, ℕ, List, [], ◌∷◌, ◌++◌, Option, None, Ok, Err, length, IsSomeAnd}
 use Rattle.std.specs.Io.KnownBytes.{Consumes, IsAtEnd, Appends}
 use Rattle.lake_outside.specs.Counts.{Rises}
 use Rattle.lake_model.specs.declared.entries.Entry.{Entry}
@@ -7,12 +7,11 @@ use Rattle.lake_model.specs.declared.scripts.Step.{Step}
 use Rattle.lake_model.specs.Allowed.{IsLegal}
 use Rattle.lake_model.specs.Following.{Follows}
 use Rattle.lake_model.specs.Text.{text}
-use Rattle.lake_script.specs.declared.status.ScriptBad.{ScriptBad}
-use Rattle.lake_script.specs.declared.status.ParseKind.TheVariants.{Syntax}
+use Rattle.sql_tokens.specs.declared.faults.ScriptBad.{ScriptBad}
 use Rattle.lake_script.specs.declared.status.Status.{Status}
 use Rattle.lake_script.specs.declared.status.Status.TheVariants.{Done, Usage, ScriptRefused, TooLong, ReadFault, WriteFault, NoMemory}
 use Rattle.lake_script.specs.Commands.{IsCommand}
-use Rattle.lake_script.specs.Scripts.{script_of}
+use Rattle.lake_script.specs.Scripts.{read_script, IsRefused}
 
 -- a source that had the bytes `old` gave some bytes, so many as `P` says, and has the bytes `new`
 abbrev pub HasRead : (ℕ → Type 0) → Option (List ℕ) → Option (List ℕ) → Type 0
@@ -24,17 +23,17 @@ pub record IsWhole (old new : Option (List ℕ)) (bytes : List ℕ) : Type 0 whe
   pub at_end : IsAtEnd new
   pub within : length bytes ≤ 16777216
 
--- the source was read to its end, and its bytes are a script of which `P` holds
+-- the source was read to its end, and its bytes are a script whose statements run and of which `P` holds
 pub record ReadsScript (P : List Step → Type 0) (old new : Option (List ℕ)) : Type 0 where
   pub bytes : List ℕ
   pub steps : List Step
   pub whole : IsWhole old new bytes
-  pub is_script : script_of bytes ≡ Some steps
+  pub is_script : read_script bytes ≡ Ok steps
   pub holds : P steps
 
--- the source was read to its end, and its bytes are no script
-abbrev pub ReadsNoScript : Option (List ℕ) → Option (List ℕ) → Type 0
-ReadsNoScript old new = (bytes : List ℕ) × IsWhole old new bytes × (script_of bytes ≡ None)
+-- the source was read to its end, and its bytes are refused so
+abbrev pub ReadsRefused : ScriptBad → Option (List ℕ) → Option (List ℕ) → Type 0
+ReadsRefused bad old new = (bytes : List ℕ) × IsWhole old new bytes × IsRefused bytes bad
 
 abbrev pub IsPrefix : List ℕ → List ℕ → Type 0
 IsPrefix xs ys = (rest : List ℕ) × (ys ≡ xs ++ rest)
@@ -92,15 +91,11 @@ pub record Outside : Type 0 where
   pub idle_before : ℕ
   pub idle_after : ℕ
 
--- bytes that are no script are refused at their first place
-abbrev pub first_place : ScriptBad
-first_place = record { line = 1; column = 1; kind = Syntax }
-
 -- what each status says of a run
 abbrev pub EndsAs : Outside → List (List ℕ) → Status → Option (List Entry) → Type 0
 EndsAs o words Done lake = IsCommand words × IsSomeAnd lake (λ entries. ReadsScript (HasRun o.written_before o.written_after entries) o.left_before o.left_after)
 EndsAs o words Usage lake = (¬ IsCommand words) × (lake ≡ None)
-EndsAs o words (ScriptRefused bad) lake = IsCommand words × (lake ≡ None) × (bad ≡ first_place) × ReadsNoScript o.left_before o.left_after
+EndsAs o words (ScriptRefused bad) lake = IsCommand words × (lake ≡ None) × ((bytes : List ℕ) × IsWhole o.left_before o.left_after bytes × (read_script bytes ≡ Err bad))
 EndsAs o words TooLong lake = IsCommand words × (lake ≡ None) × HasRead (λ n. 16777216 < n) o.left_before o.left_after
 EndsAs o words ReadFault lake = IsCommand words × (lake ≡ None) × Rises o.source_before o.source_after × HasRead (λ n. n ≤ 16777216) o.left_before o.left_after
 EndsAs o words WriteFault lake = IsCommand words × IsSomeAnd lake (λ entries. ReadsScript (HasHalted o.written_before o.written_after entries) o.left_before o.left_after)

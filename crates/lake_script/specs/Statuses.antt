@@ -1,8 +1,8 @@
 -- How a run ends, as the program says it.
 use Rattle.std.specs.Prelude.{ℕ, List, [], ◌++◌, codes}
 use Rattle.std.specs.Fmt.{decimal}
-use Rattle.lake_script.specs.declared.status.ParseKind.{ParseKind}
-use Rattle.lake_script.specs.declared.status.ParseKind.TheVariants.{BadChar, OpenText, NotUtf8, LongText, LongName, BigNumber, Limit, Syntax}
+use Rattle.sql_tokens.specs.declared.faults.ParseKind.{ParseKind}
+use Rattle.sql_tokens.specs.declared.faults.ParseKind.TheVariants.{BadChar, OpenText, NotUtf8, LongText, LongName, BigNumber, Limit, Syntax}
 use Rattle.lake_script.specs.declared.status.Status.{Status}
 use Rattle.lake_script.specs.declared.status.Status.TheVariants.{Done, Usage, ScriptRefused, TooLong, ReadFault, WriteFault, NoMemory}
 

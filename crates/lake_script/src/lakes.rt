@@ -1,4 +1,4 @@
-ghost use Rattle.std.specs.Prelude.{◌≡◌, ◌+◌, false, ◌^◌, ◌<◌, ℕ, List, [], ◌∷◌, ◌++◌, None, Some, length, map, IfOk, OnErr};
+ghost use Rattle.std.specs.Prelude.{◌≡◌, ◌+◌, true, false, ◌^◌, ◌<◌, ℕ, List, [], ◌∷◌, ◌++◌, None, Some, length, map, IfOk, OnErr};
 ghost use Rattle.lake_values.specs.declared.values.Value.{Value};
 ghost use Rattle.lake_model.specs.declared.entries.Fact.TheVariants as fact;
 ghost use Rattle.lake_model.specs.declared.replies.Verb.TheVariants as verb;
@@ -7,7 +7,7 @@ ghost use Rattle.lake_model.specs.Answers.{schema_of};
 ghost use Rattle.lake_model.specs.Changes.{no_change};
 ghost use Rattle.lake_model.specs.Query.{table_read};
 ghost use Rattle.lake_script.specs.Lakes.{IsRunBy, entry_of, addition};
-ghost use Rattle.lake_script.specs.Scripts.{IsReadable};
+ghost use Rattle.lake_script.specs.Scripts.{runs};
 
 use crate::tables::{Table, append_rows, place_of, reserve_rows};
 use lake_model::{
@@ -67,10 +67,11 @@ impl<P: Port> LakeState<P> {
     }
 
     /// Runs a statement and answers its reply. Where no memory is left, nothing changed.
+    #[tactic(auto, unfolding(crate::specs::Scripts::runs))]
     pub(crate) fn run(&mut self, alloc: Global, n: &Numbered) -> Result<Reply, NoMemory>
         requires room { length self.old < 2 ^ 62 }
         requires first { n.now.session ≡ 1 }
-        requires readable { IsReadable n.now.statement }
+        requires runs { runs n.now.statement ≡ true }
         ensures ok { IfOk result (λ reply. IsRunBy self.old self.new n.now reply) }
         ensures err { OnErr result (self.new ≡ self.old) }
     {

@@ -4,18 +4,18 @@
 
 mod examples;
 mod lakes;
-mod parsing;
 mod reading;
+mod runnable;
 mod running;
 mod status;
 mod tables;
 #[cfg(test)]
 mod tests;
-mod tokens;
 mod words;
 mod writing;
 
 pub use examples::first_example;
 pub use lakes::LakeState;
 pub use running::{Ended, lake_run};
-pub use status::{ParseKind, ScriptBad, Status, status_text};
+pub use sql_parser::{ParseKind, ScriptBad};
+pub use status::{Status, status_text};

@@ -3,7 +3,6 @@ ghost use Rattle.std.specs.Io.KnownBytes.{Consumes, IsAtEnd, Keeps};
 ghost use Rattle.lake_outside.specs.Counts.{Rises};
 ghost use Rattle.lake_script.specs.Headline.{HasRead};
 
-use crate::parsing::MOST_BYTES;
 use lake_outside::{Failed, Source};
 use std::alloc::{AllocError, Global};
 
@@ -25,6 +24,9 @@ impl From<AllocError> for ReadEnd {
         ReadEnd::NoMemory
     }
 }
+
+/// The most bytes that a script may have.
+const MOST_BYTES: usize = 16_777_216;
 
 /// How many bytes are asked for at once.
 const PIECE_BYTES: usize = 65_536;

@@ -1,22 +1,23 @@
-ghost use Rattle.std.specs.Prelude.{◌≡◌, ◌^◌, ◌<◌, ◌≤◌, ◌⊎◌, ◌↔◌, List, ℕ, [], None, Some, length, map, IsSome, IsSomeAnd, is_some, OnOk, IsErrOf, vec_len};
+ghost use Rattle.std.specs.Prelude.{◌≡◌, ◌^◌, ◌<◌, true, ◌≤◌, ◌⊎◌, ◌↔◌, List, ℕ, [], None, Some, length, map, IsSome, IsSomeAnd, is_some, OnOk, IsErrOf, vec_len};
 ghost use Rattle.std.specs.String.{string_bytes};
 ghost use Rattle.lake_outside.specs.Counts.{Rises};
 ghost use Rattle.lake_model.specs.declared.scripts.Step.{Step as ScriptStep};
 ghost use Rattle.lake_model.specs.Allowed.{IsLegal};
 ghost use Rattle.lake_model.specs.Following.{Follows};
 ghost use Rattle.lake_script.specs.Commands.{IsCommand};
-ghost use Rattle.lake_script.specs.Scripts.{IsReadable, AreNumbered, script_of};
-ghost use Rattle.lake_script.specs.Headline.{HasRead, HasRun, HasHalted, HasBegun, ReadsScript, ReadsNoScript, WritesPart, EndsAs, IsQuiet, first_place};
+ghost use Rattle.lake_script.specs.Scripts.{AreInTurn, runs, read_script};
+ghost use Rattle.lake_script.specs.Headline.{HasRead, HasRun, HasHalted, HasBegun, ReadsScript, ReadsRefused, WritesPart, EndsAs, IsQuiet};
 ghost use Rattle.lake_script.specs.Steps.{RanStep, StoppedStep};
 
 use crate::lakes::LakeState;
-use crate::parsing::{Unread, parse_script};
 use crate::reading::{ReadEnd, read_all};
-use crate::status::{ParseKind, ScriptBad, Status};
+use crate::runnable::read_script;
+use crate::status::Status;
 use crate::words::is_command;
 use crate::writing::{RunEnd, put_all};
 use lake_model::{Numbered, Script, Step, reply_text};
 use lake_outside::{Gate, Port, Sink, Source};
+use sql_parser::ParseFault;
 use std::alloc::Global;
 
 /// How a run ended, with the lake that it leaves.
@@ -56,8 +57,7 @@ pub fn lake_run<S: Source, K: Sink, P: Port, G: Gate>(
     ensures read_fault { result.status ≡ Status.ReadFault → Rises (S.faults src.old) (S.faults src.new) }
     ensures read_fault_within { result.status ≡ Status.ReadFault → HasRead (λ n. n ≤ 16777216) (S.left src.old) (S.left src.new) }
     ensures too_long { result.status ≡ Status.TooLong → HasRead (λ n. 16777216 < n) (S.left src.old) (S.left src.new) }
-    ensures refused_at { (bad : _) → result.status ≡ Status.ScriptRefused bad → bad ≡ first_place }
-    ensures refused { (bad : _) → result.status ≡ Status.ScriptRefused bad → ReadsNoScript (S.left src.old) (S.left src.new) }
+    ensures refused { (bad : _) → result.status ≡ Status.ScriptRefused bad → ReadsRefused bad (S.left src.old) (S.left src.new) }
     ensures write_fault { result.status ≡ Status.WriteFault → Rises (K.faults out.old) (K.faults out.new) ⊎ Rises (K.idle out.old) (K.idle out.new) }
     ensures halted { result.status ≡ Status.WriteFault → IsSomeAnd result.lake
         (λ entries. ReadsScript (HasHalted (K.written out.old) (K.written out.new) entries) (S.left src.old) (S.left src.new)) }
@@ -69,8 +69,8 @@ pub fn lake_run<S: Source, K: Sink, P: Port, G: Gate>(
     ensures ports { ports.new ≡ ports.old }
 
     // Where nothing fails, a source that tells its bytes is run to the end, if they are a script within the
-    // limit.
-    ensures completes { (bytes : List ℕ) (steps : List ScriptStep) → S.left src.old ≡ Some bytes → length bytes ≤ 16777216 → script_of bytes ≡ Some steps
+    // limit whose statements run.
+    ensures completes { (bytes : List ℕ) (steps : List ScriptStep) → S.left src.old ≡ Some bytes → length bytes ≤ 16777216 → read_script bytes ≡ Ok steps
         → IsCommand (map string_bytes words.now.items) → (¬ Rises (S.faults src.old) (S.faults src.new))
         → (¬ Rises (K.faults out.old) (K.faults out.new)) → (¬ Rises (K.idle out.old) (K.idle out.new))
         → (result.status ≡ Status.Done) ⊎ (result.status ≡ Status.NoMemory) }
@@ -108,10 +108,10 @@ fn run_words<S: Source, K: Sink, P: Port>(
         Err(ReadEnd::TooLong) => return without_lake(Status::TooLong),
         Err(ReadEnd::NoMemory) => return without_lake(Status::NoMemory),
     };
-    let script = match parse_script(alloc, bytes.as_slice()) {
+    let script = match read_script(alloc, bytes.as_slice()) {
         Ok(script) => script,
-        Err(Unread::Refused) => return without_lake(Status::ScriptRefused(FIRST_PLACE)),
-        Err(Unread::NoMemory) => return without_lake(Status::NoMemory),
+        Err(ParseFault::Refused(bad)) => return without_lake(Status::ScriptRefused(bad)),
+        Err(ParseFault::NoMemory) => return without_lake(Status::NoMemory),
     };
     let Ok(mut lake) = LakeState::new(alloc) else {
         return without_lake(Status::NoMemory);
@@ -122,13 +122,6 @@ fn run_words<S: Source, K: Sink, P: Port>(
         Err(RunEnd::NoMemory) => without_lake(Status::NoMemory),
     }
 }
-
-/// Where bytes that are no script are refused.
-const FIRST_PLACE: ScriptBad = ScriptBad {
-    line: 1,
-    column: 1,
-    kind: ParseKind::Syntax,
-};
 
 fn with_lake<P: Port>(status: Status, lake: LakeState<P>) -> Ended<P>
     ensures status { result.status ≡ status }
@@ -156,7 +149,7 @@ fn run_step<K: Sink, P: Port>(
 ) -> Result<(), RunEnd>
     requires room { length lake.old < 2 ^ 62 }
     requires first { n.now.session ≡ 1 }
-    requires readable { IsReadable n.now.statement }
+    requires runs { runs n.now.statement ≡ true }
     ensures ok { OnOk result (RanStep lake.old lake.new n.now (K.written out.old) (K.written out.new)) }
     ensures stopped { IsErrOf result RunEnd.WriteFault → StoppedStep ◌<◌ lake.old lake.new n.now (K.written out.old) (K.written out.new) }
     ensures no_memory { IsErrOf result RunEnd.NoMemory → ((lake.new ≡ lake.old) × (out.new ≡ out.old))
@@ -179,8 +172,8 @@ pub fn run_all<K: Sink, P: Port>(
     out: &mut K,
 ) -> Result<(), RunEnd>
     requires new { lake.old ≡ [] }
-    requires few { length script.now ≤ 16777216 }
-    requires numbered { AreNumbered 1 script.now }
+    requires few { length script.now < 2 ^ 32 }
+    requires in_turn { AreInTurn 1 script.now }
     ensures ok { OnOk result (HasRun (K.written out.old) (K.written out.new) lake.new script.now) }
     ensures halted { IsErrOf result RunEnd.WriteFault → HasHalted (K.written out.old) (K.written out.new) lake.new script.now }
     ensures no_memory { IsErrOf result RunEnd.NoMemory → HasBegun (K.written out.old) (K.written out.new) script.now }

@@ -3,29 +3,8 @@ ghost use Rattle.lake_script.specs.Statuses.{text_of_status, kind_text, line_of_
 ghost use Rattle.std.specs.String.{string_bytes};
 
 use lake_values::NoMemory;
+use sql_parser::{ParseKind, ScriptBad};
 use std::alloc::{AllocError, Global};
-
-/// What is wrong with the bytes at the place where a script is refused.
-#[derive(Clone, Copy, Debug, PartialEq, Eq)]
-pub enum ParseKind {
-    BadChar,
-    OpenText,
-    NotUtf8,
-    LongText,
-    LongName,
-    BigNumber,
-    Limit,
-    Syntax,
-}
-
-/// The first place at which a script is refused. Lines count from 1 and end behind a line feed; columns
-/// count bytes from 1.
-#[derive(Clone, Copy, Debug, PartialEq, Eq)]
-pub struct ScriptBad {
-    pub line: u32,
-    pub column: u32,
-    pub kind: ParseKind,
-}
 
 /// How a run ended.
 #[derive(Clone, Copy, Debug, PartialEq, Eq)]

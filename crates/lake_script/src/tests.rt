@@ -17,12 +17,6 @@ struct Run {
     entries: Option<usize>,
 }
 
-const REFUSED: Status = Status::ScriptRefused(ScriptBad {
-    line: 1,
-    column: 1,
-    kind: ParseKind::Syntax,
-});
-
 fn ports(alloc: Global) -> Result<Vec<DeadPort>, AllocError>
     ensures { IfOk result (λ ports. vec_len ports ≡ 33) }
 {
@@ -72,6 +66,10 @@ fn scripts_have_their_text(rt: HostRuntime) -> Result<(), Fail> {
             "1: created t as 1\n2: inserted 3 as 2\n3: 3 rows\n(1)\n(1)\n(2)\n",
         ),
         ("", ""),
+        (
+            "-- one table\nCREATE TABLE t (a INT); -- and another\n\nCREATE TABLE u (a INT);\nSELECT * FROM t AS x; SELECT * FROM u y;--",
+            "1: created t as 1\n2: created u as 2\n3: 0 rows\n4: 0 rows\n",
+        ),
         ("SELECT * FROM u;", "1: refused: unknown table u\n"),
         ("INSERT INTO u VALUES (1);", "1: refused: unknown table u\n"),
         (
@@ -94,26 +92,81 @@ fn scripts_have_their_text(rt: HostRuntime) -> Result<(), Fail> {
     Ok(())
 }
 
+/// How a script is refused.
+fn refusal(line: u32, column: u32, kind: ParseKind) -> Status {
+    Status::ScriptRefused(ScriptBad { line, column, kind })
+}
+
 #[test]
-fn other_bytes_are_no_script(rt: HostRuntime) -> Result<(), Fail> {
+fn other_bytes_are_refused_at_their_place(rt: HostRuntime) -> Result<(), Fail> {
     let alloc = rt.alloc();
-    let cases: [&[u8]; 12] = [
-        b"SELECT 1;",
-        b"SELECT * FROM t",
-        b"\xff",
-        b"CREATE TABLE t (a INT, b INT);",
-        b"CREATE TABLE table (a INT);",
-        b"CREATE TABLE t (a TEXT);",
-        b"INSERT INTO t VALUES (9223372036854775808);",
-        b"INSERT INTO t VALUES (-9223372036854775809);",
-        b"INSERT INTO t VALUES (12345678901234567890);",
-        b"INSERT INTO t VALUES (1),;",
-        b"INSERT INTO t VALUES ('x');",
-        b"CREATE TABLE t (a INT); SELECT * FROM t; -- all of it",
+    let cases: [(&[u8], u32, u32, ParseKind); 10] = [
+        (b"SELECT 1;", 1, 9, ParseKind::Syntax),
+        (b"SELECT * FROM t", 1, 16, ParseKind::Syntax),
+        (b"SELECT * FROM t\n", 2, 1, ParseKind::Syntax),
+        (b"\xff", 1, 1, ParseKind::BadChar),
+        (
+            b"CREATE TABLE t (a INT) # one column",
+            1,
+            24,
+            ParseKind::BadChar,
+        ),
+        (
+            b"CREATE TABLE t (a TEXT);\nINSERT INTO t VALUES ('x);",
+            2,
+            23,
+            ParseKind::OpenText,
+        ),
+        (b"INSERT INTO t VALUES ('\xff');", 1, 23, ParseKind::NotUtf8),
+        (
+            b"SELECT COUNT(*) FROM t JOIN u ON t.a = u.a;",
+            1,
+            24,
+            ParseKind::Syntax,
+        ),
+        (
+            b"INSERT INTO t VALUES (9223372036854775808);",
+            1,
+            23,
+            ParseKind::BigNumber,
+        ),
+        (
+            b"SELECT * FROM a JOIN b ON a.x = b.x JOIN c ON a.x = c.x JOIN d ON a.x = d.x JOIN e ON a.x = e.x;",
+            1,
+            77,
+            ParseKind::Limit,
+        ),
     ];
-    for script in cases {
+    for (script, line, column, kind) in cases {
         let run = run_script(alloc, "run", Vec::from_slice(alloc, script)?)?;
-        assert_eq!(rt; run.status, REFUSED);
+        assert_eq!(rt; run.status, refusal(line, column, kind));
+        assert_eq!(rt; run.written.len(), 0);
+        assert_eq!(rt; run.entries, None);
+    }
+    Ok(())
+}
+
+#[test]
+fn scripts_that_cannot_run_yet_are_refused_at_the_first_place(rt: HostRuntime) -> Result<(), Fail> {
+    let alloc = rt.alloc();
+    for script in [
+        "UPDATE t SET a = 1;",
+        "DELETE FROM t;",
+        "CREATE TABLE t (a INT, b INT);",
+        "CREATE TABLE t (a TEXT);",
+        "CREATE TABLE t (a INT) DISTRIBUTE BY a;",
+        "INSERT INTO t VALUES ('x');",
+        "INSERT INTO t VALUES (NULL);",
+        "INSERT INTO t VALUES (1), (1, 2);",
+        "SELECT a FROM t;",
+        "SELECT * FROM t WHERE a = 1;",
+        "SELECT * FROM t JOIN u ON t.a = u.a;",
+        "SELECT * FROM t ORDER BY a;",
+        "SELECT * FROM t LIMIT 1;",
+        "CREATE TABLE t (a INT);\nDELETE FROM t WHERE a = 'it''s';",
+    ] {
+        let run = run_script(alloc, "run", Vec::from_slice(alloc, script.as_bytes())?)?;
+        assert_eq!(rt; run.status, refusal(1, 1, ParseKind::Syntax), "{script}");
         assert_eq!(rt; run.written.len(), 0);
         assert_eq!(rt; run.entries, None);
     }
@@ -139,7 +192,7 @@ fn names_have_at_most_64_bytes(rt: HostRuntime) -> Result<(), Fail> {
     );
     assert_eq!(rt;
         run_script(alloc, "run", create_named(alloc, 65)?)?.status,
-        REFUSED
+        refusal(1, 14, ParseKind::LongName)
     );
     Ok(())
 }
@@ -251,7 +304,14 @@ fn statuses_have_their_words(rt: HostRuntime) -> Result<(), Fail> {
             Status::Usage,
             "usage: lake run|bulk N|check [--servers N] [--attempts 1|2] [--lose LIST] [--join LIST]\n",
         ),
-        (REFUSED, "script refused at 1:1: syntax\n"),
+        (
+            refusal(1, 9, ParseKind::Syntax),
+            "script refused at 1:9: syntax\n",
+        ),
+        (
+            refusal(2, 23, ParseKind::OpenText),
+            "script refused at 2:23: open text\n",
+        ),
         (Status::TooLong, "script too long\n"),
         (Status::ReadFault, "read fault\n"),
         (Status::WriteFault, "write fault\n"),

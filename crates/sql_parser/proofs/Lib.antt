@@ -1,0 +1,9 @@
+pub mod Begins
+pub mod Chains
+pub mod Judging
+pub mod Levels
+pub mod ListLoops
+pub mod Numbering
+pub mod Ranks
+pub mod ScriptLaws
+pub mod Stopping

@@ -1,0 +1,9 @@
+pub mod Classes
+pub mod ClassLaws
+pub mod Grammar
+pub mod Language
+pub mod Ahead
+pub mod Separators
+pub mod Members
+pub mod Refusals
+pub mod Scripts

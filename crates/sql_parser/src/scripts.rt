@@ -1,0 +1,146 @@
+ghost use Rattle.std.specs.Prelude.{◌≡◌, ◌≤◌, ◌<◌, ◌+◌, ◌^◌, length, vec_len, IfOk, None};
+ghost use Rattle.predictive_grammar.specs.Prediction.{first_of};
+ghost use Rattle.sql_tokens.specs.declared.faults.ParseFault.TheVariants as fault;
+ghost use Rattle.sql_parser.specs.Ahead.{Gives, reading, most_levels, is_at, refusal_of};
+ghost use Rattle.sql_parser.specs.Grammar as grammar;
+ghost use Rattle.sql_parser.specs.Refusals.{refused_next, fault_of};
+ghost use Rattle.sql_parser.specs.Scripts.{AreNumbered, script_of};
+ghost use Rattle.sql_tokens.specs.Places.{bad_of};
+
+use crate::changes::{delete, update};
+use crate::inserts::insert;
+use crate::lists::{Member, run};
+use crate::parser::Parser;
+use crate::queries::select;
+use crate::stops::{Limits, Stop};
+use crate::tables::create;
+use lake_model::{Numbered, Script, Statement, Step};
+use lake_values::{Listed, NoMemory};
+use sql_tokens::{Keyword, ParseFault, Sign, script_bad};
+use std::alloc::Global;
+
+/// The session of a statement that names none.
+const FIRST_SESSION: u32 = 1;
+
+/// A statement, told by its first keyword.
+#[tactic(auto, unfolding(crate::specs::Grammar::statement, crate::specs::Grammar::create, crate::specs::Grammar::insert, crate::specs::Grammar::select, crate::specs::Grammar::update, crate::specs::Grammar::head))]
+fn statement(parser: &mut Parser<'_>) -> Result<Statement, Stop>
+    ensures reads { Gives (λ x. x) result parser.new (reading most_levels grammar.statement parser.old) }
+    ensures ending { parser.new.ending ≡ parser.old.ending }
+{
+    if parser.is_at_keyword(Keyword::Create) {
+        return create(parser);
+    }
+    if parser.is_at_keyword(Keyword::Insert) {
+        return insert(parser);
+    }
+    if parser.is_at_keyword(Keyword::Select) {
+        return select(parser);
+    }
+    if parser.is_at_keyword(Keyword::Update) {
+        return update(parser);
+    }
+    delete(parser)
+}
+
+#[tactic(auto, unfolding(crate::specs::Grammar::statement, crate::specs::Grammar::create, crate::specs::Grammar::insert, crate::specs::Grammar::select, crate::specs::Grammar::update, crate::specs::Grammar::delete, crate::specs::Grammar::head))]
+fn is_at_statement(parser: &Parser<'_>) -> bool
+    ensures { result ≡ is_at (first_of grammar.statement) parser.now }
+{
+    parser.is_at_keyword(Keyword::Create)
+        || parser.is_at_keyword(Keyword::Insert)
+        || parser.is_at_keyword(Keyword::Select)
+        || parser.is_at_keyword(Keyword::Update)
+        || parser.is_at_keyword(Keyword::Delete)
+}
+
+/// A statement with its semicolon.
+struct Line;
+
+impl Member for Line {
+    ghost use Rattle.sql_parser.specs.Grammar as grammar;
+    ghost use Rattle.sql_parser.specs.Members.{line_decided, line_has_token};
+
+    type Value = Statement;
+
+    ghost form = { grammar.line };
+
+    ghost decided = { line_decided };
+
+    ghost has_token = { line_has_token };
+
+    fn is_next(parser: &Parser<'_>) -> bool {
+        is_at_statement(parser)
+    }
+
+    #[tactic(auto, unfolding(crate::specs::Grammar::line))]
+    fn read(parser: &mut Parser<'_>) -> Result<Statement, Stop> {
+        let statement = statement(parser)?;
+        parser.sign(Sign::Semicolon)?;
+        Ok(statement)
+    }
+}
+
+#[tactic(auto, unfolding(crate::specs::Grammar::lines))]
+fn lines(parser: &mut Parser<'_>) -> Result<Listed<Statement>, Stop>
+    ensures reads { Gives (λ x. x) result parser.new (reading most_levels grammar.lines parser.old) }
+    ensures ending { parser.new.ending ≡ parser.old.ending }
+    ensures few { IfOk result (λ statements. length statements < 2 ^ 32) }
+{
+    run::<Line>(parser, u32::MAX)
+}
+
+/// The statements as steps of the first session, numbered from 1.
+fn steps_of(alloc: Global, statements: Listed<Statement>) -> Result<Script, NoMemory>
+    requires { length statements < 2 ^ 32 }
+    ensures { IfOk result (λ steps. steps ≡ grammar.steps_from 1 statements) }
+{
+    let mut steps = Vec::with_capacity(alloc, statements.len())?;
+    let mut place = 0;
+    for statement in statements.into_list() {
+        place += 1;
+        steps.push(Step::One(Numbered {
+            place,
+            session: FIRST_SESSION,
+            statement,
+        }))?;
+    }
+    Ok(Listed::from_list(steps))
+}
+
+/// The script that the bytes are, or the first place at which they are none.
+///
+/// A script is a list of statements, each ended by a semicolon, as `specs/Grammar` says. Its statements are
+/// numbered from 1. Bytes are refused at the first token that no script goes on with, or that passes a limit;
+/// at the first byte that is no token, if that stands before; or else at their end.
+pub fn parse_script(alloc: Global, bytes: &[u8]) -> Result<Script, ParseFault>
+    ensures script { IfOk result (λ steps. script_of bytes.now ≡ Ok steps) }
+    ensures numbered { IfOk result AreNumbered }
+    ensures refused { (bad : _) → result ≡ Err (fault.Refused bad) → script_of bytes.now ≡ Err bad }
+{
+    let mut parser = Parser::new(alloc, bytes)?;
+    match lines(&mut parser) {
+        Ok(statements) if parser.is_at_end() => Ok(steps_of(alloc, statements)?),
+        Ok(_) => Err(refusal(&parser, bytes, Limits::Syntax)),
+        Err(stop) => Err(fault_of(&parser, bytes, stop)),
+    }
+}
+
+/// The refusal of what is next.
+fn refusal(parser: &Parser<'_>, bytes: &[u8], kind: Limits) -> ParseFault
+    requires { parser.now.ending.bytes ≡ length bytes.now }
+    ensures { result ≡ fault.Refused (bad_of bytes.now (refused_next (refusal_of kind) parser.now)) }
+{
+    ParseFault::Refused(script_bad(bytes, parser.refusal(kind)))
+}
+
+/// Why there is no script, where reading its lines was stopped.
+fn fault_of(parser: &Parser<'_>, bytes: &[u8], stop: Stop) -> ParseFault
+    requires { parser.now.ending.bytes ≡ length bytes.now }
+    ensures { result ≡ fault_of bytes.now parser.now stop }
+{
+    match stop {
+        Stop::Refused(kind) => refusal(parser, bytes, kind),
+        Stop::NoMemory => ParseFault::NoMemory,
+    }
+}

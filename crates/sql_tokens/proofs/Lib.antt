@@ -1,0 +1,7 @@
+pub mod Ascii
+pub mod Growing
+pub mod Lookup
+pub mod Order
+pub mod Plain
+pub mod Quoted
+pub mod Scanning

@@ -1,0 +1,5 @@
+pub mod Tokens
+pub mod Scans
+pub mod Places
+pub mod Listing
+pub mod Laws
