@@ -9,3 +9,9 @@ pub mod Answers
 pub mod Following
 pub mod Replies
 pub mod Text
+pub mod Scopes
+pub mod Types
+pub mod Mentions
+pub mod BoundForms
+pub mod Binding
+pub mod Form

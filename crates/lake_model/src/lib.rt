@@ -8,6 +8,7 @@ mod expressions;
 mod listing;
 mod replies;
 mod reply_texts;
+mod scopes;
 mod scripts;
 mod statements;
 
@@ -22,6 +23,7 @@ pub use expressions::{Agg, ArithOp, CmpOp, Expr, Item, Items, Ref, Refs};
 pub use listing::in_row_order;
 pub use replies::{Failure, Refusal, Reply, Verb};
 pub use reply_texts::reply_text;
+pub use scopes::{ExprType, Found, Heading};
 pub use scripts::{Group, Numbered, Script, Step};
 pub use statements::{
     Ons, OrderBy, OrderKey, OrderKeys, RefPairs, Select, Set, Sets, SourceRef, Sources, Statement,

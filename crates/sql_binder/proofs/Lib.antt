@@ -1,0 +1,5 @@
+pub mod Distinct
+pub mod Grouping
+pub mod Queries
+pub mod ShortTexts
+pub mod Typing

@@ -1,0 +1,6 @@
+use Rattle.std.proofs.Common.{◌≡◌, ◌++◌, drop}
+use Rattle.lake_model.specs.BoundForms as form
+use Rattle.sql_binder.proofs.outputs.keys_of.Given as goal
+
+abbrev pub invariant-loop-group : goal.invariant-loop-group
+invariant-loop-group l = l.keys.items ++ form.keys_of l.scope (drop l.group-index l.groups) ≡ form.keys_of l.scope l.groups
