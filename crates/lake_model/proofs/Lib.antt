@@ -1,3 +1,9 @@
 pub mod Sorting
 pub mod Lists
 pub mod Steps
+pub mod Bags
+pub mod Summaries
+pub mod GroupBags
+pub mod BagLaw
+pub mod Texts
+pub mod Removal

@@ -21,7 +21,7 @@ module _ {X : Type 0} (cmp : X → X → Ordering) where
   Rises [] = Unit {0}
   Rises (x ∷ xs) = AllByRecursion (UpTo x) xs × Rises xs
 
-all_placed : {X : Type 0} (cmp : X → X → Ordering) (P : X → Type 0) (x : X) (xs : List X) → P x → AllByRecursion P xs → AllByRecursion P (placed cmp x xs)
+pub all_placed : {X : Type 0} (cmp : X → X → Ordering) (P : X → Type 0) (x : X) (xs : List X) → P x → AllByRecursion P xs → AllByRecursion P (placed cmp x xs)
 all_placed cmp P x [] px all = (px, tt)
 all_placed cmp P x (y ∷ ys) px all =
     elim (is_gt (cmp x y)) as (λ b. AllByRecursion P (if b then y ∷ placed cmp x ys else x ∷ y ∷ ys)) [
@@ -45,7 +45,12 @@ weight_none : {X : Type 0} (g : X → ℕ) (xs : List X) → AllByRecursion (λ 
 weight_none g [] all = refl
 weight_none g (x ∷ xs) all = omega (arith, all.0, weight_none g xs all.1)
 
-all_more : {X : Type 0} {P Q : X → Type 0} (xs : List X) → ((x : X) → P x → Q x) → AllByRecursion P xs → AllByRecursion Q xs
+-- members moved to other places are the same bag
+pub same_moved : {X : Type 0} (xs ys : List X) → IsPermutation xs ys → SameBag xs ys
+same_moved xs ys moved g =
+    is_sum_by (weight g) g refl (λ _ _. refl) xs ∙ sym (sum_by-IsPermutation g xs ys moved) ∙ sym (is_sum_by (weight g) g refl (λ _ _. refl) ys)
+
+pub all_more : {X : Type 0} {P Q : X → Type 0} (xs : List X) → ((x : X) → P x → Q x) → AllByRecursion P xs → AllByRecursion Q xs
 all_more [] f all = tt
 all_more (x ∷ xs) f all = (f x all.0, all_more xs f all.1)
 
@@ -134,11 +139,14 @@ module _ {X : Type 0} {cmp : X → X → Ordering} (o : IsTotalOrder cmp) where
   not_below x y h =
       rw (o.antisymm x y) (elim (cmp y x) as (λ r. is_lt r ≡ false → is_gt (ordering_reverse r) ≡ false) [ Less ↦ λ e. e | Equal ↦ λ e. refl | Greater ↦ λ e. refl ] h)
 
+  -- a sorted list rises
+  pub rises_from_sorted : (xs : List X) → IsSorted cmp xs → Rises cmp xs
+  unfolding Far
+  rises_from_sorted xs sorted =
+      rises_far xs (λ i j d h k. not_below (get_or xs i d) (get_or xs j d) (sorted_far (λ (a b : X). is_lt (cmp a b)) (ranks_by o (λ (a : X). a)) xs sorted i j d h k))
+
   -- what a sort leaves is the members in ascending order
   pub ordered_from_sort : ((x y : X) → cmp x y ≡ Equal → x ≡ y) → (xs ys : List X) → IsPermutation xs ys → IsSorted cmp ys → ys ≡ ordered cmp xs
-  unfolding Far
   ordered_from_sort tells xs ys moved sorted =
-      same_sorted tells ys (ordered cmp xs)
-      (rises_far ys (λ i j d h k. not_below (get_or ys i d) (get_or ys j d) (sorted_far (λ (a b : X). is_lt (cmp a b)) (ranks_by o (λ (a : X). a)) ys sorted i j d h k)))
-      (ordered_rises xs)
-      (λ (g : X → ℕ). is_sum_by (weight g) g refl (λ _ _. refl) ys ∙ sum_by-IsPermutation g xs ys moved ∙ sym (is_sum_by (weight g) g refl (λ _ _. refl) xs) ∙ sym (weight_ordered cmp xs g))
+      same_sorted tells ys (ordered cmp xs) (rises_from_sorted ys sorted) (ordered_rises xs)
+      (λ (g : X → ℕ). sym (same_moved xs ys moved g) ∙ sym (weight_ordered cmp xs g))

@@ -8,7 +8,7 @@ use Rattle.lake_model.specs.declared.scripts.Numbered.{Numbered}
 use Rattle.lake_model.specs.declared.scripts.Step.{Step}
 use Rattle.lake_model.specs.declared.scripts.Step.TheVariants.{One, Parallel}
 use Rattle.lake_model.specs.declared.statements.Statement.{Statement}
-use Rattle.lake_model.specs.declared.statements.Statement.TheVariants.{Create, Insert, Select}
+use Rattle.lake_model.specs.declared.statements.Statement.TheVariants.{Create, Insert, Select, Update, Delete}
 use Rattle.lake_model.specs.State.{State, opening, stated}
 use Rattle.lake_model.specs.Allowed.{IsLegalFrom}
 use Rattle.lake_model.specs.Answers.{IsRight}
@@ -59,6 +59,8 @@ abbrev pub entry_rows : Statement → List (List EntryKind)
 entry_rows (Create table columns distribution) = (created ∷ []) ∷ (refused ∷ []) ∷ []
 entry_rows (Insert table rows) = alone_rows
 entry_rows (Select q) = alone_rows
+entry_rows (Update table sets filter) = alone_rows
+entry_rows (Delete table filter) = alone_rows
 entry_rows x = []
 
 abbrev pub is_ran : Fact → Bool

@@ -8,7 +8,7 @@ use Rattle.lake_model.specs.declared.entries.Fact.TheVariants.{Created, Began, R
 use Rattle.lake_model.specs.declared.replies.Reply.{Reply}
 use Rattle.lake_model.specs.declared.replies.Reply.TheVariants.{Wrote}
 use Rattle.lake_model.specs.Versions.{Version}
-use Rattle.lake_model.specs.Changes.{no_change, pend, apply}
+use Rattle.lake_model.specs.Changes.{no_change, pend, applied}
 
 -- a session's open transaction
 pub record Transaction : Type 0 where
@@ -50,9 +50,13 @@ transaction st session = opened_by session st.running
 abbrev pub is_inside : State → ℕ → Bool
 is_inside st session = option_map_or (λ t. t.explicit) (transaction st session) false
 
+-- the number of the next part of the session's transaction
+abbrev pub next_part : State → ℕ → ℕ
+next_part st session = option_map_or (λ t. t.parts + 1) (transaction st session) 1
+
 -- what a session sees: its snapshot with its own changes, or no table outside a transaction
 abbrev pub view : State → ℕ → Version
-view st session = option_map_or (λ t. apply t.pending (version_at st t.snapshot)) (transaction st session) []
+view st session = option_map_or (λ t. applied 0 t.pending (version_at st t.snapshot)) (transaction st session) []
 
 -- one version more
 abbrev pub with_version : Version → State → State
@@ -83,7 +87,7 @@ after_ran session reply change st = option_map_or (λ t. turned session (with_pa
 
 -- the session's change becomes the newest version
 abbrev pub after_commit : ℕ → State → State
-after_commit session st = option_map_or (λ t. ended session (with_version (apply t.pending (newest st)) st)) (transaction st session) st
+after_commit session st = option_map_or (λ t. ended session (with_version (applied (last st + 1) t.pending (newest st)) st)) (transaction st session) st
 
 -- what an entry makes of the state. Where no statement makes an entry yet, nothing
 abbrev pub after_fact : ℕ → Fact → State → State

@@ -47,7 +47,7 @@ pub type BoundAggs = Listed<BoundAgg>;
 
 pub type Keys = Listed<Key>;
 
-/// The schemas of a version's tables, in order of name.
+/// The schemas of a version's tables, each with the name of its table.
 pub type Schemas = Listed<(Text, Schema)>;
 
 /// A query after binding.

@@ -5,6 +5,7 @@
 mod bound;
 mod entries;
 mod expressions;
+mod laws;
 mod listing;
 mod replies;
 mod reply_texts;
@@ -20,7 +21,8 @@ pub use entries::{
     Added, AddedList, Cells16, Change, Chronicle, Entry, Fact, Mark, MarkedRow, MarkedRows, Marks,
 };
 pub use expressions::{Agg, ArithOp, CmpOp, Expr, Item, Items, Ref, Refs};
-pub use listing::in_row_order;
+pub use laws::same_bags_same_answer;
+pub use listing::{in_mark_order, in_row_order};
 pub use replies::{Failure, Refusal, Reply, Verb};
 pub use reply_texts::reply_text;
 pub use scopes::{ExprType, Found, Heading};

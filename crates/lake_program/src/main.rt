@@ -1,11 +1,12 @@
-//! The program `lake`: it runs the SQL script that standard input gives, and prints the replies.
+//! The program `lake`: it runs the SQL script that standard input gives and prints the replies, or checks it and
+//! prints how many statements it has.
 #![tactic(auto)]
 
 ghost use Rattle.std.specs.Prelude.{◌≡◌, IfOk, vec_len};
 ghost use Rattle.lake_script.specs.Statuses.{exit_number};
 
-use lake_outside::{DeadPort, InputSource, OpenGate, OutputSink};
-use lake_script::{Status, lake_run, status_text};
+use lake_outside::{DeadPort, InputSource, OpenGate, OutputSink, Sink, Source};
+use lake_script::{Status, lake_check, lake_run, status_text};
 use std::alloc::{AllocError, Global};
 use std::io::{ErrorKind, Write};
 use std::process::ExitCode;
@@ -19,18 +20,38 @@ fn main(rt: HostRuntime) -> ExitCode {
     let alloc = rt.alloc();
     let status = match words_of(&rt) {
         Err(status) => status,
-        Ok(words) => match dead_ports(alloc) {
-            Err(AllocError) => Status::NoMemory,
-            Ok(mut ports) => {
-                let mut src = InputSource::new(rt.stdin());
-                let mut out = OutputSink::new(rt.stdout());
-                lake_run(alloc, &words, &mut src, &mut out, &mut ports, &OpenGate).status
-            }
-        },
+        Ok(words) => {
+            let mut src = InputSource::new(rt.stdin());
+            let mut out = OutputSink::new(rt.stdout());
+            answer(alloc, &words, &mut src, &mut out)
+        }
     };
     // A failure to say why changes nothing: the exit status says it too.
     let _ = say(alloc, &mut rt.stderr(), &status);
     ExitCode::from(number_of(&status))
+}
+
+/// Checks a script where the first word is `check`, and else runs it.
+fn answer<S: Source, K: Sink>(
+    alloc: Global,
+    words: &Vec<String>,
+    src: &mut S,
+    out: &mut K,
+) -> Status {
+    if is_check(words) {
+        return lake_check(alloc, words, src, out);
+    }
+    match dead_ports(alloc) {
+        Err(AllocError) => Status::NoMemory,
+        Ok(mut ports) => lake_run(alloc, words, src, out, &mut ports, &OpenGate).status,
+    }
+}
+
+fn is_check(words: &Vec<String>) -> bool {
+    match words.as_slice().first() {
+        Some(word) => word.as_str() == "check",
+        None => false,
+    }
 }
 
 /// The words behind the program's name. Words that aren't UTF-8 are no command.

@@ -1,6 +1,17 @@
 pub mod OneWord
 pub mod Streams
 pub mod Places
+pub mod Applying
+pub mod Outcomes
+pub mod Bindings
+pub mod Alone
 pub mod Homes
+pub mod Owning
+pub mod Committing
+pub mod Creating
+pub mod Making
+pub mod FirstExample
+pub mod Counting
+pub mod Stopping
 pub mod Progress
 pub mod ReadScripts

@@ -1,160 +1,170 @@
--- The table at a place of the tables that a lake keeps.
-use Rattle.std.proofs.Common.{◌≡◌, ℕ, zero, suc, ◌+◌, ◌<◌, ◌≤◌, Bool, true, false, List, [], ◌∷◌, ◌++◌, Option, None, Some, map, length, get_or, set, refl, sym, ap, ◌∙◌, subst, arith, vec_len, nat_lt, if◌then◌else◌}
-use Rattle.std.specs.Prelude.{vec_capacity, not, position, is_some}
-use Rattle.std.specs.List.{prefix_len}
+-- The table of a name and the table at a place, as a lake keeps them and as a version has them.
+use Rattle.std.proofs.Common.{◌≡◌, ℕ, zero, suc, ◌+◌, ◌<◌, ◌≤◌, Bool, true, false, List, [], ◌∷◌, ◌++◌, Option, None, Some, map, filter, length, get_or, set, refl, sym, ap, ◌∙◌, subst, arith, vec_len, nat_lt, cond, if◌then◌else◌}
+use Rattle.std.specs.Prelude.{vec_capacity, not, position, is_some, find}
+use Rattle.std.specs.List.{AllByRecursion, prefix_len}
 use Rattle.std.specs.Option.{option_map_or}
-use Rattle.std.proofs.lemmas.Bool.{leb-true, leb-false}
-use Rattle.std.proofs.Math.Seq.{map-set_same}
+use Rattle.std.proofs.lemmas.Bool.{leb-false}
+use Rattle.std.proofs.lemmas.List.Quantifiers.{position-Some}
 use Rattle.std.proofs.lemmas.List.{map-append}
-use Rattle.lake_values.specs.Schemas.{TableColumns, IsSchema}
-use Rattle.lake_values.specs.declared.schemas.Column.{Column}
+use Rattle.std.proofs.Math.Seq.{map-set_same}
+use Rattle.lake_values.specs.Schemas.{TableColumns}
 use Rattle.lake_values.specs.declared.values.Value.{Value}
-use Rattle.lake_model.specs.Versions.{Table, Version, same_text, has_table, table_of, rows_of}
-use Rattle.lake_model.specs.declared.entries.Added.{Added}
-use Rattle.lake_model.specs.Changes.{grown}
-use Rattle.lake_script.specs.declared.tables.Table.{Table as Kept}
-use Rattle.lake_script.specs.Tables.{seen, with_rows, HasRoom}
+use Rattle.lake_model.specs.declared.entries.MarkedRow.{MarkedRow}
+use Rattle.lake_model.specs.Versions.{Table, Version, same_text, has_table, marked_rows_of}
+use Rattle.lake_model.proofs.Texts.{same_text_is}
+use Rattle.lake_script.specs.declared.tables.Kept.{Kept}
+use Rattle.lake_script.specs.declared.tables.Table.{Table as KeptTable}
+use Rattle.lake_script.specs.Tables.{HasRoom, changed_at, marked_as, seen}
 
-pub room_at : (xs : List Kept) (i more : ℕ) (t : Kept) → i < length xs → t ≡ get_or xs i t → HasRoom xs i more → vec_len t.rows + more ≤ vec_capacity t.rows
-room_at [] i more t h e room = absurd room
-room_at (x ∷ xs) zero more t h e room = let P : Kept → Type 0 = λ u. vec_len u.rows + more ≤ vec_capacity u.rows in subst P (sym e) room
-room_at (x ∷ xs) (suc i) more t h e room = room_at xs i more t (omega arith) e room
+-- the first member that passes a test stands at the place
 
-pub room_set : (xs : List Kept) (i more : ℕ) (t : Kept) → i < length xs → vec_len t.rows + more ≤ vec_capacity t.rows → HasRoom (set xs i t) i more
-room_set [] i more t h room = absurd (omega arith)
-room_set (x ∷ xs) zero more t h room = room
-room_set (x ∷ xs) (suc i) more t h room = room_set xs i more t (omega arith) room
+abbrev pub IsFirst : {X : Type 0} → (X → Bool) → List X → ℕ → Type 0
+IsFirst p [] place = ⊥
+IsFirst p (x ∷ xs) zero = p x ≡ true
+IsFirst p (x ∷ xs) (suc place) = (p x ≡ false) × IsFirst p xs place
 
-pub same_set : (xs : List Kept) (i : ℕ) (t u : Kept) → t ≡ get_or xs i t → seen u ≡ seen t → map seen (set xs i u) ≡ map seen xs
-same_set xs i t u e same = map-set_same seen xs i u t (same ∙ ap seen e)
+from_places : {X : Type 0} (p : X → Bool) (d : X) (xs : List X) (i : ℕ) → i < length xs → p (get_or xs i d) ≡ true → ((k : ℕ) → k < i → p (get_or xs k d) ≡ false) → IsFirst p xs i
+from_places p d [] i within passes fail = absurd (omega arith)
+from_places p d (x ∷ xs) zero within passes fail = passes
+from_places p d (x ∷ xs) (suc i) within passes fail = (fail 0 (omega arith), from_places p d xs i (omega arith) passes (λ k h. fail (suc k) (omega arith)))
 
-pub rows_set : (xs : List Kept) (i : ℕ) (t u : Kept) (rows : List (List Value)) → i < length xs → t ≡ get_or xs i t →
-    u.name ≡ t.name → u.schema ≡ t.schema → u.rows.items ≡ t.rows.items ++ rows → map seen (set xs i u) ≡ with_rows i rows (map seen xs)
-rows_set [] i t u rows h e n s r = absurd (omega arith)
-rows_set (x ∷ xs) zero t u rows h e n s r =
-    let name : u.name ≡ x.name = n ∙ ap (λ (k : Kept). k.name) e in
-    let schema : u.schema ≡ x.schema = s ∙ ap (λ (k : Kept). k.schema) e in
-    let items : u.rows.items ≡ x.rows.items ++ rows = r ∙ ap (λ (k : Kept). k.rows.items ++ rows) e in
-    λ j. record { name = name j; schema = schema j; rows = items j } ∷ map seen xs
-rows_set (x ∷ xs) (suc i) t u rows h e n s r = ap (λ (ts : Version). seen x ∷ ts) (rows_set xs i t u rows (omega arith) e n s r)
+pub first_found : {X : Type 0} (p : X → Bool) (xs : List X) (i : ℕ) → position p xs ≡ Some i → IsFirst p xs i
+first_found p [] i found = absurd cc
+first_found p (x ∷ xs) i found = let at = position-Some p (x ∷ xs) i x found in from_places p x (x ∷ xs) i at.0 at.1 at.2
 
--- where no table has the name, and where the first that has it stands
+first_within : {X : Type 0} (p : X → Bool) (xs : List X) (i : ℕ) → IsFirst p xs i → i < length xs
+first_within p [] i first = absurd first
+first_within p (x ∷ xs) zero first = omega arith
+first_within p (x ∷ xs) (suc i) first = omega (arith, first_within p xs i first.1)
 
-abbrev pub bears : List ℕ → Kept → Bool
-bears name t = same_text t.name name
+pub first_passes : {X : Type 0} (p : X → Bool) (xs : List X) (i : ℕ) (x : X) → IsFirst p xs i → x ≡ get_or xs i x → p x ≡ true
+first_passes p [] i x first is = absurd first
+first_passes p (y ∷ ys) zero x first is = ap p is ∙ first
+first_passes p (y ∷ ys) (suc i) x first is = first_passes p ys i x first.1 is
 
-first_place : List ℕ → List Kept → ℕ
-first_place name xs = prefix_len (λ t. not (bears name t)) xs
+pub first_mapped : {X Y : Type 0} (f : X → Y) (p : Y → Bool) (xs : List X) (i : ℕ) → IsFirst (λ x. p (f x)) xs i → IsFirst p (map f xs) i
+first_mapped f p [] i first = first
+first_mapped f p (x ∷ xs) zero first = first
+first_mapped f p (x ∷ xs) (suc i) first = (first.0, first_mapped f p xs i first.1)
 
-absent : (name : List ℕ) (xs : List Kept) → length xs ≤ first_place name xs → has_table name (map seen xs) ≡ false
-unfolding first_place
-absent name [] h = refl
-absent name (x ∷ xs) h =
-    elim (bears name x) as (λ b. length (x ∷ xs) ≤ (if not b then 1 + first_place name xs else 0) →
-    is_some (if b then Some (seen x) else table_of name (map seen xs)) ≡ false) [
-      | true ↦ λ k. absurd (omega (arith, k))
-      | false ↦ λ k. absent name xs (omega (arith, k))
-    ] h
+found_mapped : {X Y : Type 0} (f : X → Y) (p : Y → Bool) (xs : List X) (i : ℕ) (x : X) → IsFirst (λ x. p (f x)) xs i → x ≡ get_or xs i x → find p (map f xs) ≡ Some (f x)
+found_mapped f p [] i x first is = absurd first
+found_mapped f p (y ∷ ys) zero x first is = rw first (ap (λ z. Some (f z)) (sym is))
+found_mapped f p (y ∷ ys) (suc i) x first is = rw first.0 (found_mapped f p ys i x first.1 is)
 
--- the table stands at the place: it is there, its rows are there, and rows that are added to it go there
-pub record IsAt (name : List ℕ) (version : Version) (i : ℕ) : Type 0 where
-  pub there : has_table name version ≡ true
-  pub grows : (added : Added) → added.table ≡ name → grown version added ≡ with_rows i added.rows version
+there_mapped : {X Y : Type 0} (f : X → Y) (p : Y → Bool) (xs : List X) (i : ℕ) → IsFirst (λ x. p (f x)) xs i → is_some (find p (map f xs)) ≡ true
+there_mapped f p [] i first = absurd first
+there_mapped f p (x ∷ xs) zero first = rw first refl
+there_mapped f p (x ∷ xs) (suc i) first = rw first.0 (there_mapped f p xs i first.1)
 
-at_head : (name : List ℕ) (x : Kept) (version : Version) → bears name x ≡ true → IsAt name (seen x ∷ version) 0
-at_head name x version b = record {
-  there = rw b refl;
-  grows = λ added e. rw e (rw b refl);
-}
+-- no member passes a test
 
-at_tail : (name : List ℕ) (x : Kept) (version : Version) (i : ℕ) → bears name x ≡ false → IsAt name version i → IsAt name (seen x ∷ version) (suc i)
-at_tail name x version i b at = record {
-  there = rw b at.there;
-  grows = λ added e. let other : same_text x.name added.table ≡ false = ap (same_text x.name) e ∙ b in rw other (ap (λ (ts : Version). seen x ∷ ts) (at.grows added e));
-}
-
-present : (name : List ℕ) (xs : List Kept) → first_place name xs < length xs → IsAt name (map seen xs) (first_place name xs)
-unfolding first_place
-present name [] h = absurd (omega arith)
-present name (x ∷ xs) h =
-    elim (bears name x) as (λ b. bears name x ≡ b → (if not b then 1 + first_place name xs else 0) < length (x ∷ xs) →
-    IsAt name (seen x ∷ map seen xs) (if not b then 1 + first_place name xs else 0)) [
-      | true ↦ λ e k. at_head name x (map seen xs) e
-      | false ↦ λ e k.
-          let P : ℕ → Type 0 = λ i. IsAt name (seen x ∷ map seen xs) i in
-          let next : suc (first_place name xs) ≡ 1 + first_place name xs = omega arith in
-          subst P next (at_tail name x (map seen xs) (first_place name xs) e (present name xs (omega (arith, k))))
+behind_all : {X : Type 0} (p : X → Bool) (xs : List X) → length xs ≤ prefix_len (λ x. not (p x)) xs → AllByRecursion (λ x. p x ≡ false) xs
+behind_all p [] h = tt
+behind_all p (x ∷ xs) h =
+    elim (p x) as (λ b. p x ≡ b → length (x ∷ xs) ≤ (if not b then 1 + prefix_len (λ x. not (p x)) xs else 0) → AllByRecursion (λ x. p x ≡ false) (x ∷ xs)) [
+      | true ↦ λ e k. absurd (omega (arith, k))
+      | false ↦ λ e k. (e, behind_all p xs (omega (arith, k)))
     ] refl h
 
-rows_first : (name : List ℕ) (xs : List Kept) (t : Kept) → first_place name xs < length xs → t ≡ get_or xs (first_place name xs) t → rows_of name (map seen xs) ≡ t.rows.items
-unfolding first_place
-rows_first name [] t h e = absurd (omega arith)
-rows_first name (x ∷ xs) t h e =
-    elim (bears name x) as (λ b. (if not b then 1 + first_place name xs else 0) < length (x ∷ xs) →
-    t ≡ get_or (x ∷ xs) (if not b then 1 + first_place name xs else 0) t →
-    option_map_or (λ u. u.rows) (if b then Some (seen x) else table_of name (map seen xs)) [] ≡ t.rows.items) [
-      | true ↦ λ k is. ap (λ (u : Kept). u.rows.items) (sym is)
-      | false ↦ λ k is.
-          let next : 1 + first_place name xs ≡ suc (first_place name xs) = omega arith in
-          rows_first name xs t (omega (arith, k)) (is ∙ ap (λ (i : ℕ). get_or (x ∷ xs) i t) next)
-    ] h e
-
--- what `position` answers, by the first place
-found_first : (name : List ℕ) (xs : List Kept) (i : ℕ) → position (λ t. same_text t.name name) xs ≡ Some i → (first_place name xs < length xs) × (first_place name xs ≡ i)
-unfolding first_place
-found_first name xs i found =
-    elim (nat_lt (first_place name xs) (length xs)) as (λ b. nat_lt (first_place name xs) (length xs) ≡ b → (if b then Some (first_place name xs) else None) ≡ Some i →
-    (first_place name xs < length xs) × (first_place name xs ≡ i)) [
-      | true ↦ λ e k. (leb-true (suc (first_place name xs)) (length xs) e, cc)
-      | false ↦ λ e k. absurd (cc)
-    ] refl found
-
-pub not_there : (name : List ℕ) (xs : List Kept) → position (λ t. same_text t.name name) xs ≡ None → has_table name (map seen xs) ≡ false
-unfolding first_place
-not_there name xs none =
-    elim (nat_lt (first_place name xs) (length xs)) as (λ b. nat_lt (first_place name xs) (length xs) ≡ b → ◌≡◌ {A = Option ℕ} (if b then Some (first_place name xs) else None) None →
-    has_table name (map seen xs) ≡ false) [
-      | true ↦ λ e k. absurd (cc)
-      | false ↦ λ e k. absent name xs (omega (arith, leb-false (suc (first_place name xs)) (length xs) e))
+pub none_passes : {X : Type 0} (p : X → Bool) (xs : List X) → position p xs ≡ None → AllByRecursion (λ x. p x ≡ false) xs
+none_passes p xs none =
+    let place = prefix_len (λ x. not (p x)) xs in
+    elim (nat_lt place (length xs)) as (λ b. nat_lt place (length xs) ≡ b → ◌≡◌ {A = Option ℕ} (cond b (Some place) None) None → AllByRecursion (λ x. p x ≡ false) xs) [
+      | true ↦ λ e k. absurd cc
+      | false ↦ λ e k. behind_all p xs (omega (arith, leb-false (suc place) (length xs) e))
     ] refl none
 
-pub is_at : (name : List ℕ) (xs : List Kept) (i : ℕ) → position (λ t. same_text t.name name) xs ≡ Some i → (i < length xs) × IsAt name (map seen xs) i
-is_at name xs i found =
-    let first = found_first name xs i found in
-    let P : ℕ → Type 0 = λ k. (k < length xs) × IsAt name (map seen xs) k in
-    subst P first.1 (first.0, present name xs first.0)
+none_found : {X Y : Type 0} (f : X → Y) (p : Y → Bool) (xs : List X) → AllByRecursion (λ x. p (f x) ≡ false) xs → find p (map f xs) ≡ None
+none_found f p [] all = refl
+none_found f p (x ∷ xs) all = rw all.0 (none_found f p xs all.1)
 
--- the rows of the table at the place
-pub rows_at : (name : List ℕ) (xs : List Kept) (i : ℕ) (t : Kept) → position (λ t. same_text t.name name) xs ≡ Some i → t ≡ get_or xs i t → rows_of name (map seen xs) ≡ t.rows.items
-rows_at name xs i t found e =
-    let first = found_first name xs i found in
-    rows_first name xs t first.0 (e ∙ ap (λ (k : ℕ). get_or xs k t) (sym first.1))
+-- the table of a name stands at the place
 
--- what the code finds
+abbrev pub IsAt : List ℕ → Version → ℕ → Type 0
+IsAt name version place = IsFirst (λ t. same_text t.name name) version place
 
-pub is_there : (name : List ℕ) (xs ys : List Kept) (found : Option ℕ) → ys ≡ xs → found ≡ position (λ t. same_text t.name name) ys → is_some found ≡ true → has_table name (map seen xs) ≡ true
-is_there name xs ys None e p h = absurd (cc)
-is_there name xs ys (Some i) e p h = (is_at name xs i (ap (λ (zs : List Kept). position (λ t. same_text t.name name) zs) (sym e) ∙ sym p)).1.there
+-- what the code finds in a slice of the tables
 
-pub is_absent : (name : List ℕ) (xs ys : List Kept) (found : Option ℕ) → ys ≡ xs → found ≡ position (λ t. same_text t.name name) ys → is_some found ≡ false → has_table name (map seen xs) ≡ false
-is_absent name xs ys None e p h = not_there name xs (ap (λ (zs : List Kept). position (λ t. same_text t.name name) zs) (sym e) ∙ sym p)
-is_absent name xs ys (Some i) e p h = absurd (cc)
+pub stands : (name : List ℕ) (xs ys : List KeptTable) (place : ℕ) → ys ≡ xs → Some place ≡ position (λ t. same_text t.name name) ys →
+    (place < length xs) × (position (λ t. same_text t.name name) xs ≡ Some place)
+stands name xs ys place same is =
+    let found : position (λ t. same_text t.name name) xs ≡ Some place = ap (λ (ts : List KeptTable). position (λ t. same_text t.name name) ts) (sym same) ∙ sym is in
+    (first_within (λ (t : KeptTable). same_text t.name name) xs place (first_found (λ (t : KeptTable). same_text t.name name) xs place found), found)
 
-pub stands : (name : List ℕ) (xs ys : List Kept) (i : ℕ) → ys ≡ xs → Some i ≡ position (λ t. same_text t.name name) ys → (i < length xs) × IsAt name (map seen xs) i
-stands name xs ys i e p = is_at name xs i (ap (λ (zs : List Kept). position (λ t. same_text t.name name) zs) (sym e) ∙ sym p)
+pub is_there : (name : List ℕ) (xs ys : List KeptTable) (found : Option ℕ) → ys ≡ xs → found ≡ position (λ t. same_text t.name name) ys → is_some found ≡ true → has_table name (map seen xs) ≡ true
+is_there name xs ys None same is there = absurd cc
+is_there name xs ys (Some place) same is there =
+    there_mapped seen (λ t. same_text t.name name) xs place (first_found (λ (t : KeptTable). same_text t.name name) xs place (stands name xs ys place same is).1)
 
-pub rows_there : (name : List ℕ) (xs ys : List Kept) (i : ℕ) (t : Kept) → ys ≡ xs → Some i ≡ position (λ t. same_text t.name name) ys → t ≡ get_or xs i t → rows_of name (map seen xs) ≡ t.rows.items
-rows_there name xs ys i t e p at = rows_at name xs i t (ap (λ (zs : List Kept). position (λ t. same_text t.name name) zs) (sym e) ∙ sym p) at
+pub is_absent : (name : List ℕ) (xs ys : List KeptTable) (found : Option ℕ) → ys ≡ xs → found ≡ position (λ t. same_text t.name name) ys → is_some found ≡ false → has_table name (map seen xs) ≡ false
+is_absent name xs ys None same is there =
+    let none : position (λ t. same_text t.name name) xs ≡ None = ap (λ (ts : List KeptTable). position (λ t. same_text t.name name) ts) (sym same) ∙ sym is in
+    ap is_some (none_found seen (λ t. same_text t.name name) xs (none_passes (λ (t : KeptTable). same_text t.name name) xs none))
+is_absent name xs ys (Some place) same is there = absurd cc
 
-pub pushed : (xs ys zs : List Kept) (kept : Kept) (name : List ℕ) (schema : TableColumns) → zs ≡ ys ++ kept ∷ [] → ys ≡ xs → kept.name ≡ name → kept.schema ≡ schema → kept.rows.items ≡ [] →
+-- the rows of the table of a name
+
+pub rows_there : (name : List ℕ) (xs : List KeptTable) (place : ℕ) (t : KeptTable) → position (λ t. same_text t.name name) xs ≡ Some place → t ≡ get_or xs place t →
+    map (marked_as name) t.rows.items ≡ marked_rows_of name (map seen xs)
+rows_there name xs place t found is =
+    let first = first_found (λ (t : KeptTable). same_text t.name name) xs place found in
+    let named : t.name ≡ name = same_text_is t.name name (first_passes (λ (t : KeptTable). same_text t.name name) xs place t first is) in
+    ap (λ (n : List ℕ). map (marked_as n) t.rows.items) (sym named)
+    ∙ sym (ap (λ (u : Option Table). option_map_or (λ t. t.rows) u []) (found_mapped seen (λ t. same_text t.name name) xs place t first is))
+
+pub no_rows_there : (name : List ℕ) (xs : List KeptTable) → position (λ t. same_text t.name name) xs ≡ None → marked_rows_of name (map seen xs) ≡ []
+no_rows_there name xs none =
+    ap (λ (u : Option Table). option_map_or (λ t. t.rows) u []) (none_found seen (λ t. same_text t.name name) xs (none_passes (λ (t : KeptTable). same_text t.name name) xs none))
+
+-- another table is put at the place
+
+pub room_at : (xs : List KeptTable) (place more : ℕ) (t : KeptTable) → place < length xs → t ≡ get_or xs place t → HasRoom xs place more → vec_len t.rows + more ≤ vec_capacity t.rows
+room_at [] place more t h e room = absurd room
+room_at (x ∷ xs) zero more t h e room = subst (λ (u : KeptTable). vec_len u.rows + more ≤ vec_capacity u.rows) (sym e) room
+room_at (x ∷ xs) (suc place) more t h e room = room_at xs place more t (omega arith) e room
+
+pub room_set : (xs : List KeptTable) (place more : ℕ) (t : KeptTable) → place < length xs → vec_len t.rows + more ≤ vec_capacity t.rows → HasRoom (set xs place t) place more
+room_set [] place more t h room = absurd (omega arith)
+room_set (x ∷ xs) zero more t h room = room
+room_set (x ∷ xs) (suc place) more t h room = room_set xs place more t (omega arith) room
+
+pub same_set : (xs : List KeptTable) (place : ℕ) (t u : KeptTable) → t ≡ get_or xs place t → seen u ≡ seen t → map seen (set xs place u) ≡ map seen xs
+same_set xs place t u e same = map-set_same seen xs place u t (same ∙ ap seen e)
+
+pub changed_set : (rows : Table → List MarkedRow) (xs : List KeptTable) (place : ℕ) (t u : KeptTable) → t ≡ get_or xs place t → seen u ≡ record (seen t) { rows = rows (seen t) } →
+    map seen (set xs place u) ≡ changed_at rows place (map seen xs)
+changed_set rows [] place t u e same = refl
+changed_set rows (x ∷ xs) zero t u e same = ap (λ (v : Table). v ∷ map seen xs) (same ∙ ap (λ (k : KeptTable). record (seen k) { rows = rows (seen k) }) e)
+changed_set rows (x ∷ xs) (suc place) t u e same = ap (λ (ts : Version). seen x ∷ ts) (changed_set rows xs place t u e same)
+
+-- the rows are changed twice at the place
+pub changed_twice : (first second both : Table → List MarkedRow) → ((t : Table) → second (record t { rows = first t }) ≡ both t) → (place : ℕ) (version : Version) →
+    changed_at second place (changed_at first place version) ≡ changed_at both place version
+changed_twice first second both same place [] = refl
+changed_twice first second both same zero (t ∷ ts) = ap (λ (rows : List MarkedRow). record t { rows = rows } ∷ ts) (same t)
+changed_twice first second both same (suc place) (t ∷ ts) = ap (λ (us : Version). t ∷ us) (changed_twice first second both same place ts)
+
+-- rows with their marks: those that are left, and the rows alone
+
+pub kept_marked : (table : List ℕ) (gone : List Value → Bool) (rows : List Kept) → map (marked_as table) (filter (λ k. not (gone k.row)) rows) ≡ filter (λ m. not (gone m.row)) (map (marked_as table) rows)
+kept_marked table gone [] = refl
+kept_marked table gone (k ∷ ks) =
+    elim (gone k.row) as (λ b. map (marked_as table) (cond (not b) (k ∷ filter (λ k. not (gone k.row)) ks) (filter (λ k. not (gone k.row)) ks))
+    ≡ cond (not b) (marked_as table k ∷ filter (λ m. not (gone m.row)) (map (marked_as table) ks)) (filter (λ m. not (gone m.row)) (map (marked_as table) ks))) [
+      | true ↦ kept_marked table gone ks
+      | false ↦ ap (λ (ms : List MarkedRow). marked_as table k ∷ ms) (kept_marked table gone ks)
+    ]
+
+pub rows_marked : (table : List ℕ) (rows : List Kept) → map (λ k. k.row) rows ≡ map (λ m. m.row) (map (marked_as table) rows)
+rows_marked table [] = refl
+rows_marked table (k ∷ ks) = ap (λ (rows : List (List Value)). k.row ∷ rows) (rows_marked table ks)
+
+-- a table without rows is put behind the others
+pub pushed : (xs ys zs : List KeptTable) (t : KeptTable) (name : List ℕ) (schema : TableColumns) → zs ≡ ys ++ t ∷ [] → ys ≡ xs → t.name ≡ name → t.schema ≡ schema → t.rows.items ≡ [] →
     map seen xs ++ record { name = name; schema = schema; rows = [] } ∷ [] ≡ map seen zs
-pushed xs ys zs kept name schema e f n s r =
-    let last : record { name = name; schema = schema; rows = [] } ≡ seen kept = λ i. record { name = sym n i; schema = sym s i; rows = sym r i } in
-    ap (λ (t : Table). map seen xs ++ t ∷ []) last
-    ∙ sym (map-append seen xs (kept ∷ []))
-    ∙ ap (λ (us : List Kept). map seen us) (ap (λ (us : List Kept). us ++ kept ∷ []) (sym f) ∙ sym e)
-
-pub one_column : (columns : List Column) → length columns ≡ 1 → IsSchema columns 0
-one_column [] h = absurd (omega (arith, h))
-one_column (column ∷ []) h = record { some = omega arith; at_most = omega arith; distinct = (λ k d i. absurd (omega (arith, i)), tt); in_range = omega arith }
-one_column (column ∷ other ∷ columns) h = absurd (omega (arith, h))
+pushed xs ys zs t name schema behind same named has_schema none =
+    let last : record { name = name; schema = schema; rows = [] } ≡ seen t = λ i. record { name = sym named i; schema = sym has_schema i; rows = map (marked_as (sym named i)) (sym none i) } in
+    ap (λ (u : Table). map seen xs ++ u ∷ []) last
+    ∙ sym (map-append seen xs (t ∷ []))
+    ∙ ap (λ (us : List KeptTable). map seen us) (ap (λ (us : List KeptTable). us ++ t ∷ []) (sym same) ∙ sym behind)

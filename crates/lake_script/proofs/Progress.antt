@@ -79,7 +79,7 @@ module _ (before middle after : Option (List ℕ)) (old new : List Entry) (steps
         text = (let Q : List ℕ → Type 0 = λ bytes. Appends before after bytes in
             subst Q (sym (ap (text (old ++ ran.run)) done_now ∙ text_more old ran.run (take count steps) n so_far.follows below_now ran.answered))
             (appends_more before middle after _ _ so_far.text ran.written));
-        numbered = numbered_now.3;
+        numbered = numbered_now.2;
         below = (let Q : List Numbered → Type 0 = λ ns. AllByRecursion (λ m. m.place < count + 1 + 1) ns in
             subst Q (sym (ap statements done_now ∙ flat_map-append _ (take count steps) (One n ∷ [])))
             (all_append _ (statements (take count steps)) (n ∷ []) (all_weaker (statements (take count steps)) (λ m less. omega (arith, less)) so_far.below) (omega (arith, numbered_now.0), tt)));

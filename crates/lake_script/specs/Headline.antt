@@ -11,7 +11,7 @@ use Rattle.sql_tokens.specs.declared.faults.ScriptBad.{ScriptBad}
 use Rattle.lake_script.specs.declared.status.Status.{Status}
 use Rattle.lake_script.specs.declared.status.Status.TheVariants.{Done, Usage, ScriptRefused, TooLong, ReadFault, WriteFault, NoMemory}
 use Rattle.lake_script.specs.Commands.{IsCommand}
-use Rattle.lake_script.specs.Scripts.{read_script, IsRefused}
+use Rattle.sql_parser.specs.Scripts.{script_of}
 
 -- a source that had the bytes `old` gave some bytes, so many as `P` says, and has the bytes `new`
 abbrev pub HasRead : (ℕ → Type 0) → Option (List ℕ) → Option (List ℕ) → Type 0
@@ -23,17 +23,27 @@ pub record IsWhole (old new : Option (List ℕ)) (bytes : List ℕ) : Type 0 whe
   pub at_end : IsAtEnd new
   pub within : length bytes ≤ 16777216
 
--- the source was read to its end, and its bytes are a script whose statements run and of which `P` holds
+-- the source was read to its end, and its bytes are a script of which `P` holds
 pub record ReadsScript (P : List Step → Type 0) (old new : Option (List ℕ)) : Type 0 where
   pub bytes : List ℕ
   pub steps : List Step
   pub whole : IsWhole old new bytes
-  pub is_script : read_script bytes ≡ Ok steps
+  pub is_script : script_of bytes ≡ Ok steps
   pub holds : P steps
 
 -- the source was read to its end, and its bytes are refused so
 abbrev pub ReadsRefused : ScriptBad → Option (List ℕ) → Option (List ℕ) → Type 0
-ReadsRefused bad old new = (bytes : List ℕ) × IsWhole old new bytes × IsRefused bytes bad
+ReadsRefused bad old new = (bytes : List ℕ) × IsWhole old new bytes × (script_of bytes ≡ Err bad)
+
+-- the run ended before its first statement, since the script couldn't be read
+abbrev pub EndsReading : Option (List ℕ) → Option (List ℕ) → ℕ → ℕ → Status → Type 0
+EndsReading left_before left_after before after Done = ⊥
+EndsReading left_before left_after before after Usage = ⊥
+EndsReading left_before left_after before after (ScriptRefused bad) = ReadsRefused bad left_before left_after
+EndsReading left_before left_after before after TooLong = HasRead (λ n. 16777216 < n) left_before left_after
+EndsReading left_before left_after before after ReadFault = Rises before after × HasRead (λ n. n ≤ 16777216) left_before left_after
+EndsReading left_before left_after before after WriteFault = ⊥
+EndsReading left_before left_after before after NoMemory = Unit {0}
 
 abbrev pub IsPrefix : List ℕ → List ℕ → Type 0
 IsPrefix xs ys = (rest : List ℕ) × (ys ≡ xs ++ rest)
@@ -95,7 +105,7 @@ pub record Outside : Type 0 where
 abbrev pub EndsAs : Outside → List (List ℕ) → Status → Option (List Entry) → Type 0
 EndsAs o words Done lake = IsCommand words × IsSomeAnd lake (λ entries. ReadsScript (HasRun o.written_before o.written_after entries) o.left_before o.left_after)
 EndsAs o words Usage lake = (¬ IsCommand words) × (lake ≡ None)
-EndsAs o words (ScriptRefused bad) lake = IsCommand words × (lake ≡ None) × ((bytes : List ℕ) × IsWhole o.left_before o.left_after bytes × (read_script bytes ≡ Err bad))
+EndsAs o words (ScriptRefused bad) lake = IsCommand words × (lake ≡ None) × ReadsRefused bad o.left_before o.left_after
 EndsAs o words TooLong lake = IsCommand words × (lake ≡ None) × HasRead (λ n. 16777216 < n) o.left_before o.left_after
 EndsAs o words ReadFault lake = IsCommand words × (lake ≡ None) × Rises o.source_before o.source_after × HasRead (λ n. n ≤ 16777216) o.left_before o.left_after
 EndsAs o words WriteFault lake = IsCommand words × IsSomeAnd lake (λ entries. ReadsScript (HasHalted o.written_before o.written_after entries) o.left_before o.left_after)

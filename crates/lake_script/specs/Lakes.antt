@@ -1,23 +1,26 @@
 -- What a lake keeps beside its chronicle, and what the statements of a script add to both.
-use Rattle.std.specs.Prelude.{◌≡◌, ℕ, ◌+◌, ◌≤◌, List, [], ◌∷◌, ◌++◌, Some, length}
-use Rattle.lake_values.specs.declared.values.Value.{Value}
-use Rattle.lake_model.specs.declared.entries.Change.{Change}
+use Rattle.std.specs.Prelude.{◌≡◌, ℕ, ◌+◌, ◌≤◌, List, [], ◌++◌, Some, length}
 use Rattle.lake_model.specs.declared.entries.Entry.{Entry}
 use Rattle.lake_model.specs.declared.entries.Fact.{Fact}
 use Rattle.lake_model.specs.declared.replies.Reply.{Reply}
 use Rattle.lake_model.specs.declared.scripts.Numbered.{Numbered}
 use Rattle.lake_model.specs.Versions.{Version}
+use Rattle.lake_model.specs.Scopes.{TableSchemas}
+use Rattle.lake_model.specs.Writing.{schemas_of}
 use Rattle.lake_model.specs.State.{State, state, newest, stated}
 use Rattle.lake_model.specs.State as states
 use Rattle.lake_model.specs.Allowed.{IsLegal}
 use Rattle.lake_model.specs.Following.{IsAnswered}
 use Rattle.lake_model.specs.Text.{reply_of}
+use Rattle.lake_script.specs.Tables.{HasOwnNames}
 
--- the chronicle is legal and no transaction is open; the newest version has these tables, and these are the
--- numbers of the last version and of the last transaction
-pub record IsHome (entries : List Entry) (tables : Version) (last number : ℕ) : Type 0 where
+-- the chronicle is legal and no transaction is open; the newest version has these tables, which have these schemas
+-- and names of their own; and these are the numbers of the last version and of the last transaction
+pub record IsHome (entries : List Entry) (tables : Version) (schemas : TableSchemas) (last number : ℕ) : Type 0 where
   pub legal : IsLegal entries
   pub tables_are : newest (state entries) ≡ tables
+  pub schemas_are : schemas ≡ schemas_of tables
+  pub own_names : HasOwnNames tables
   pub last_is : states.last (state entries) ≡ last
   pub number_is : (state entries).last_number ≡ number
   pub alone : (state entries).running ≡ []
@@ -28,10 +31,6 @@ pub record IsHome (entries : List Entry) (tables : Version) (last number : ℕ) 
 -- an entry of a statement
 abbrev pub entry_of : Numbered → Fact → Entry
 entry_of n f = record { session = n.session; place = n.place; fact = f }
-
--- the first part of a transaction that adds rows to a table
-abbrev pub addition : List ℕ → List (List Value) → Change
-addition table rows = record { removed = []; added = record { table = table; part = 1; rows = rows } ∷ [] }
 
 -- the statement at a place added this run of entries to a chronicle, and answered so
 pub record IsRunBy (old new : List Entry) (n : Numbered) (reply : Reply) : Type 0 where

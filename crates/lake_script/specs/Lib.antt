@@ -2,7 +2,9 @@ pub mod Commands
 pub mod Scripts
 pub mod Statuses
 pub mod Headline
+pub mod Checks
 pub mod Tables
+pub mod Effects
 pub mod Lakes
 pub mod Steps
 pub mod Examples

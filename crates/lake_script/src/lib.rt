@@ -1,12 +1,16 @@
-//! The top call: it reads a script from a source, runs its statements over a lake, and writes their
-//! replies to a sink.
+//! The top calls: one reads a script from a source, runs its statements over a lake, and writes their
+//! replies to a sink; the other reads a script and writes how many statements it has.
 #![tactic(auto)]
 
+mod checking;
+mod effects;
 mod examples;
 mod lakes;
+#[cfg(test)]
+mod query_tests;
 mod reading;
-mod runnable;
 mod running;
+mod scripts;
 mod status;
 mod tables;
 #[cfg(test)]
@@ -14,6 +18,7 @@ mod tests;
 mod words;
 mod writing;
 
+pub use checking::lake_check;
 pub use examples::first_example;
 pub use lakes::LakeState;
 pub use running::{Ended, lake_run};

@@ -5,19 +5,18 @@ ghost use Rattle.lake_model.specs.declared.scripts.Step.{Step as ScriptStep};
 ghost use Rattle.lake_model.specs.Allowed.{IsLegal};
 ghost use Rattle.lake_model.specs.Following.{Follows};
 ghost use Rattle.lake_script.specs.Commands.{IsCommand};
-ghost use Rattle.lake_script.specs.Scripts.{AreInTurn, runs, read_script};
+ghost use Rattle.lake_script.specs.Scripts.{AreInTurn, IsRunnable};
+ghost use Rattle.sql_parser.specs.Scripts.{script_of};
 ghost use Rattle.lake_script.specs.Headline.{HasRead, HasRun, HasHalted, HasBegun, ReadsScript, ReadsRefused, WritesPart, EndsAs, IsQuiet};
 ghost use Rattle.lake_script.specs.Steps.{RanStep, StoppedStep};
 
 use crate::lakes::LakeState;
-use crate::reading::{ReadEnd, read_all};
-use crate::runnable::read_script;
+use crate::scripts::read_script;
 use crate::status::Status;
 use crate::words::is_command;
 use crate::writing::{RunEnd, put_all};
 use lake_model::{Numbered, Script, Step, reply_text};
 use lake_outside::{Gate, Port, Sink, Source};
-use sql_parser::ParseFault;
 use std::alloc::Global;
 
 /// How a run ended, with the lake that it leaves.
@@ -68,9 +67,8 @@ pub fn lake_run<S: Source, K: Sink, P: Port, G: Gate>(
     ensures unread { result.status ≡ Status.Usage → src.new ≡ src.old }
     ensures ports { ports.new ≡ ports.old }
 
-    // Where nothing fails, a source that tells its bytes is run to the end, if they are a script within the
-    // limit whose statements run.
-    ensures completes { (bytes : List ℕ) (steps : List ScriptStep) → S.left src.old ≡ Some bytes → length bytes ≤ 16777216 → read_script bytes ≡ Ok steps
+    // Where nothing fails, a source that tells its bytes is run to the end, if they are a script within the limit.
+    ensures completes { (bytes : List ℕ) (steps : List ScriptStep) → S.left src.old ≡ Some bytes → length bytes ≤ 16777216 → script_of bytes ≡ Ok steps
         → IsCommand (map string_bytes words.now.items) → (¬ Rises (S.faults src.old) (S.faults src.new))
         → (¬ Rises (K.faults out.old) (K.faults out.new)) → (¬ Rises (K.idle out.old) (K.idle out.new))
         → (result.status ≡ Status.Done) ⊎ (result.status ≡ Status.NoMemory) }
@@ -102,16 +100,9 @@ fn run_words<S: Source, K: Sink, P: Port>(
     if !is_command(words) {
         return without_lake(Status::Usage);
     }
-    let bytes = match read_all(alloc, src) {
-        Ok(bytes) => bytes,
-        Err(ReadEnd::Fault) => return without_lake(Status::ReadFault),
-        Err(ReadEnd::TooLong) => return without_lake(Status::TooLong),
-        Err(ReadEnd::NoMemory) => return without_lake(Status::NoMemory),
-    };
-    let script = match read_script(alloc, bytes.as_slice()) {
+    let script = match read_script(alloc, src) {
         Ok(script) => script,
-        Err(ParseFault::Refused(bad)) => return without_lake(Status::ScriptRefused(bad)),
-        Err(ParseFault::NoMemory) => return without_lake(Status::NoMemory),
+        Err(status) => return without_lake(status),
     };
     let Ok(mut lake) = LakeState::new(alloc) else {
         return without_lake(Status::NoMemory);
@@ -148,8 +139,7 @@ fn run_step<K: Sink, P: Port>(
     out: &mut K,
 ) -> Result<(), RunEnd>
     requires room { length lake.old < 2 ^ 62 }
-    requires first { n.now.session ≡ 1 }
-    requires runs { runs n.now.statement ≡ true }
+    requires runnable { IsRunnable n.now }
     ensures ok { OnOk result (RanStep lake.old lake.new n.now (K.written out.old) (K.written out.new)) }
     ensures stopped { IsErrOf result RunEnd.WriteFault → StoppedStep ◌<◌ lake.old lake.new n.now (K.written out.old) (K.written out.new) }
     ensures no_memory { IsErrOf result RunEnd.NoMemory → ((lake.new ≡ lake.old) × (out.new ≡ out.old))

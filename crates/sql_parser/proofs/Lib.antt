@@ -1,5 +1,7 @@
 pub mod Begins
 pub mod Chains
+pub mod InForm
+pub mod InFormExpressions
 pub mod Judging
 pub mod Levels
 pub mod ListLoops
@@ -7,3 +9,5 @@ pub mod Numbering
 pub mod Ranks
 pub mod ScriptLaws
 pub mod Stopping
+pub mod ShortNames
+pub mod Yields

@@ -26,6 +26,7 @@ use Rattle.lake_model.specs.declared.statements.Set.{Set}
 use Rattle.lake_model.specs.declared.statements.SourceRef.{SourceRef}
 use Rattle.lake_model.specs.declared.statements.Statement.{Statement}
 use Rattle.lake_model.specs.declared.statements.Statement.TheVariants.{Create, Insert, Select, Update, Delete}
+use Rattle.lake_model.specs.BoundForms.{is_aggregate}
 use Rattle.sql_tokens.specs.declared.keywords.Keyword.{Keyword}
 use Rattle.sql_tokens.specs.declared.keywords.Keyword.TheVariants as keyword
 use Rattle.sql_tokens.specs.declared.signs.Sign.{Sign}
@@ -292,10 +293,6 @@ unfoldable pub head : Form Head
 head =
     as_ (λ x. head_of x.0 x.1)
     (key keyword.Select >> items << key keyword.From & source)
-
-abbrev pub is_aggregate : Item → Bool
-is_aggregate (Plain e as_name) = false
-is_aggregate (Aggregate a as_name) = true
 
 abbrev pub has_aggregate : Option (List Item) → Bool
 has_aggregate None = false

@@ -1,10 +1,13 @@
 -- What a script is: bytes whose tokens are a sentence of the grammar, and where bytes that are none are refused.
-use Rattle.std.specs.Prelude.{◌≡◌, ◌⊎◌, ◌↔◌, ◌<◌, ◌^◌, ℕ, List, [], ◌∷◌, None, Some, Result, Ok, Err, length}
+use Rattle.std.specs.Prelude.{◌≡◌, ◌⊎◌, ◌↔◌, ◌<◌, ◌^◌, ℕ, List, [], ◌∷◌, None, Some, Result, Ok, Err, length, Bool, true, false}
+use Rattle.std.specs.List.{list_all}
 use Rattle.predictive_grammar.specs.Definitions.{IsSentence, read_sentence_alone}
 use Rattle.predictive_grammar.specs.Laws.{IsFirstRefused}
 use Rattle.predictive_grammar.specs.Reading.{Refusal, Refused}
 use Rattle.lake_model.specs.declared.scripts.Step.{Step}
+use Rattle.lake_model.specs.declared.scripts.Step.TheVariants.{One, Parallel}
 use Rattle.lake_model.specs.declared.statements.Statement.{Statement}
+use Rattle.lake_model.specs.declared.statements.Statement.TheVariants.{Create, Insert, Select, Update, Delete}
 use Rattle.sql_tokens.specs.declared.faults.BadToken.{BadToken}
 use Rattle.sql_tokens.specs.declared.faults.ScriptBad.{ScriptBad}
 use Rattle.sql_tokens.specs.declared.lexemes.Lexed.{Lexed}
@@ -23,6 +26,24 @@ pub record IsScript (bytes : List ℕ) (steps : List Step) : Type 0 where
 -- The steps are statements of session 1, numbered from 1, and their places have 32 bits.
 abbrev pub AreNumbered : List Step → Type 0
 AreNumbered steps = (statements : List Statement) × (length statements < 2 ^ 32) × (steps ≡ steps_from 1 statements)
+
+-- a CREATE, INSERT, SELECT, UPDATE or DELETE
+abbrev pub is_table_statement : Statement → Bool
+is_table_statement (Create table columns distribution) = true
+is_table_statement (Insert table rows) = true
+is_table_statement (Select q) = true
+is_table_statement (Update table sets filter) = true
+is_table_statement (Delete table filter) = true
+is_table_statement x = false
+
+-- a step all of whose statements pass a test
+abbrev pub all_of_step : (Statement → Bool) → Step → Bool
+all_of_step test (One n) = test n.statement
+all_of_step test (Parallel group) = list_all (λ n. test n.statement) group
+
+-- each statement of the steps passes the test
+abbrev pub AllStatements : (Statement → Bool) → List Step → Type 0
+AllStatements test steps = list_all (all_of_step test) steps ≡ true
 
 -- The token from which on the tokens begin no script, or the end of all tokens if they are no script, or bytes behind
 -- all tokens that are no token.

@@ -2,7 +2,7 @@ ghost use Rattle.std.specs.Prelude.{◌≡◌};
 ghost use Rattle.sql_parser.specs.Ahead.{Gives, reading, most_levels, is_at};
 ghost use Rattle.sql_parser.specs.Grammar as grammar;
 
-use crate::lists::{MOST_MEMBERS, Member, Separator, list};
+use crate::lists::{MOST_MEMBERS, Member, Separator, list, list_with_capacity};
 use crate::parser::Parser;
 use crate::stops::Stop;
 use crate::values::{is_at_literal, literal};
@@ -58,8 +58,15 @@ impl Member for Tuple {
     #[tactic(auto, unfolding(crate::specs::Grammar::tuple))]
     fn read(parser: &mut Parser<'_>) -> Result<Row, Stop> {
         parser.sign(Sign::OpenParenthesis)?;
-        let values = list::<Literal>(parser, Some(MOST_MEMBERS), Separator::Comma)?;
+        let width = parser.row_width();
+        let values = list_with_capacity::<Literal>(
+            parser,
+            Some(MOST_MEMBERS),
+            Separator::Comma,
+            width,
+        )?;
         parser.sign(Sign::CloseParenthesis)?;
+        parser.set_row_width(values.len());
         Ok(Row::from_values(values.into_list()))
     }
 }

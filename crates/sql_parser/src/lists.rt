@@ -113,7 +113,20 @@ pub fn list<M: Member>(
     ensures reads { Gives (λ x. x) result parser.new (reading most_levels (listed most (separator_class separator) M.form) parser.old) }
     ensures ending { parser.new.ending ≡ parser.old.ending }
 {
-    let mut members = Vec::new(parser.allocator());
+    list_with_capacity::<M>(parser, most, separator, 0)
+}
+
+/// A list for which memory is first taken for so many members.
+pub fn list_with_capacity<M: Member>(
+    parser: &mut Parser<'_>,
+    most: Option<u32>,
+    separator: Separator,
+    capacity: usize,
+) -> Result<Listed<M::Value>, Stop>
+    ensures reads { Gives (λ x. x) result parser.new (reading most_levels (listed most (separator_class separator) M.form) parser.old) }
+    ensures ending { parser.new.ending ≡ parser.old.ending }
+{
+    let mut members = Vec::with_capacity(parser.allocator(), capacity)?;
     let first = M::read(parser)?;
     members.push(first)?;
     let mut room = less_one(most);

@@ -1,7 +1,7 @@
 ghost use Rattle.std.specs.Prelude.{◌≡◌, ◌≤◌, ◌∷◌, [], ℕ, List, None, Some, IfOk, OnOk, OnErr, IsSome, length};
 ghost use Rattle.std.specs.Option.{option_copied};
 ghost use Rattle.predictive_grammar.specs.Prediction.{begins};
-ghost use Rattle.sql_tokens.specs.Scans.{scan_at};
+ghost use Rattle.sql_tokens.specs.Scans.{IsBehind, begun, scan_at};
 ghost use Rattle.sql_parser.specs.Classes.{comparison_of, a_name, a_text, a_number, a_comparison, the_keyword, the_sign, words};
 ghost use Rattle.sql_parser.specs.Ahead.{Gives, reading, is_at, refusal_of, next_lexeme_in, behind_first};
 ghost use Rattle.sql_parser.specs.Refusals.{kind_at, refused_next, is_all_read};
@@ -24,6 +24,8 @@ pub struct Parser<'a> {
     next: Next,
     /// How many operators the expression may still have.
     operators: u32,
+    /// How many values the last row had.
+    row_width: usize,
 }
 
 impl<'a> Model for Parser<'a> {
@@ -46,18 +48,31 @@ impl<'a> Parser<'a> {
         ensures bytes { IfOk result (λ p. p.ending.bytes ≡ length bytes.now) }
         ensures operators { IfOk result (λ p. p.operators ≡ 0) }
     {
-        let next = next_lexeme(alloc, bytes, 0)?;
+        let mut next = Next::End;
+        read_next(alloc, bytes, 0, &mut next)?;
         Ok(Parser {
             alloc,
             bytes,
             next,
             operators: 0,
+            row_width: 0,
         })
     }
 
     /// What values are put together with.
     pub fn allocator(&self) -> Global {
         self.alloc
+    }
+
+    /// How many values the last row had. The next one mostly has as many.
+    pub fn row_width(&self) -> usize {
+        self.row_width
+    }
+
+    pub fn set_row_width(&mut self, width: usize)
+        ensures { self.new ≡ self.old }
+    {
+        self.row_width = width;
     }
 
     /// Sets how many operators the expression may still have, and answers how many it might have had.
@@ -131,7 +146,8 @@ impl<'a> Parser<'a> {
         let Next::Token(token) = &self.next else {
             unreachable!()
         };
-        let next = next_lexeme(self.alloc, self.bytes, token.end as usize)?;
+        let mut next = Next::End;
+        read_next(self.alloc, self.bytes, token.end as usize, &mut next)?;
         match mem::replace(&mut self.next, next) {
             Next::Token(token) => Ok(token.lexeme),
             _ => unreachable!(),
@@ -145,8 +161,11 @@ impl<'a> Parser<'a> {
         ensures ending { self.new.ending ≡ self.old.ending }
         ensures operators { self.new.operators ≡ self.old.operators }
     {
-        self.advance()?;
-        Ok(())
+        let Next::Token(token) = &self.next else {
+            unreachable!()
+        };
+        let end = token.end as usize;
+        read_next(self.alloc, self.bytes, end, &mut self.next)
     }
 
     /// This keyword.
@@ -245,12 +264,13 @@ impl<'a> Parser<'a> {
         ensures ending { self.new.ending ≡ self.old.ending }
         ensures bound { IfOk result (λ number. number ≤ most) }
     {
-        if !self.is_at_number(most) {
-            return Err(Stop::Refused(Limits::Syntax));
-        }
-        match self.advance()? {
-            Lexeme::Number(number) => Ok(number),
-            _ => unreachable!(),
+        match self.peek() {
+            Some(Lexeme::Number(number)) if *number <= most => {
+                let number = *number;
+                self.skip()?;
+                Ok(number)
+            }
+            _ => Err(Stop::Refused(Limits::Syntax)),
         }
     }
 
@@ -296,6 +316,19 @@ impl<'a> Parser<'a> {
         self.operators -= 1;
         Ok(())
     }
+}
+
+/// Reads what stands next in the bytes, from a place on.
+// Not inlined, so that the tokeniser stands once in a program and writes each token right where it is kept.
+#[inline(never)]
+fn read_next(alloc: Global, bytes: &[u8], from: usize, next: &mut Next) -> Result<(), NoMemory>
+    requires { from ≤ length bytes.now }
+    ensures next { OnOk result (scan_at from bytes.now ≡ begun next.new bytes.now) }
+    ensures behind { OnOk result (IsBehind from (length bytes.now) next.new) }
+    ensures err { OnErr result (next.new ≡ next.old) }
+{
+    *next = next_lexeme(alloc, bytes, from)?;
+    Ok(())
 }
 
 /// Why a token is refused: a big number as such, whatever may stand there.

@@ -1,12 +1,13 @@
 ghost use Rattle.std.specs.Prelude.{◌≡◌, ◌∷◌, [], map, IfOk};
 ghost use Rattle.std.specs.List.{list_any};
+ghost use Rattle.lake_model.specs.BoundForms.{is_aggregate};
 ghost use Rattle.predictive_grammar.specs.Reading.{mapped};
 ghost use Rattle.sql_parser.specs.Ahead.{Gives, reading, most_levels, is_at};
 ghost use Rattle.sql_parser.specs.Grammar as grammar;
 
 use crate::expressions::where_clause;
 use crate::items::SelectItem;
-use crate::lists::{MOST_MEMBERS, Member, Separator, list, run};
+use crate::lists::{MOST_MEMBERS, Member, Separator, list, list_with_capacity, run};
 use crate::parser::Parser;
 use crate::selects::{Body, Head, Join, Joins, Tail};
 use crate::stops::Stop;
@@ -115,7 +116,8 @@ impl Member for JoinedTable {
         parser.keyword(Keyword::Join)?;
         let source = source(parser)?;
         parser.keyword(Keyword::On)?;
-        let on = list::<Equality>(parser, None, Separator::And)?;
+        // Mostly there is one equality.
+        let on = list_with_capacity::<Equality>(parser, None, Separator::And, 1)?;
         Ok(Join { source, on })
     }
 }
@@ -207,13 +209,13 @@ fn has_aggregate(items: &Option<Items>) -> bool
 }
 
 fn is_any_aggregate(items: &[Item]) -> bool
-    ensures { result ≡ list_any grammar.is_aggregate items.now }
+    ensures { result ≡ list_any is_aggregate items.now }
 {
     items.iter().any(|item| is_aggregate(item))
 }
 
 fn is_aggregate(item: &Item) -> bool
-    ensures { result ≡ grammar.is_aggregate item.now }
+    ensures { result ≡ is_aggregate item.now }
 {
     matches!(item, Item::Agg(_, _))
 }
@@ -359,9 +361,9 @@ fn sources_of(alloc: Global, first: SourceRef, joins: Joins) -> Result<(Sources,
     ensures sources { IfOk result (λ made. made.0 ≡ first ∷ map (λ j. j.source) joins) }
     ensures ons { IfOk result (λ made. made.1 ≡ map (λ j. j.on) joins) }
 {
-    let mut sources = Vec::new(alloc);
+    let mut sources = Vec::with_capacity(alloc, joins.len() + 1)?;
     sources.push(first)?;
-    let mut ons = Vec::new(alloc);
+    let mut ons = Vec::with_capacity(alloc, joins.len())?;
     for join in joins.into_list() {
         let Join { source, on } = join;
         sources.push(source)?;

@@ -4,7 +4,8 @@ ghost use Rattle.sql_tokens.specs.declared.faults.ParseFault.TheVariants as faul
 ghost use Rattle.sql_parser.specs.Ahead.{Gives, reading, most_levels, is_at, refusal_of};
 ghost use Rattle.sql_parser.specs.Grammar as grammar;
 ghost use Rattle.sql_parser.specs.Refusals.{refused_next, fault_of};
-ghost use Rattle.sql_parser.specs.Scripts.{AreNumbered, script_of};
+ghost use Rattle.lake_model.specs.Form.{is_form};
+ghost use Rattle.sql_parser.specs.Scripts.{AllStatements, AreNumbered, is_table_statement, script_of};
 ghost use Rattle.sql_tokens.specs.Places.{bad_of};
 
 use crate::changes::{delete, update};
@@ -116,6 +117,8 @@ fn steps_of(alloc: Global, statements: Listed<Statement>) -> Result<Script, NoMe
 pub fn parse_script(alloc: Global, bytes: &[u8]) -> Result<Script, ParseFault>
     ensures script { IfOk result (λ steps. script_of bytes.now ≡ Ok steps) }
     ensures numbered { IfOk result AreNumbered }
+    ensures kinds { IfOk result (AllStatements is_table_statement) }
+    ensures in_form { IfOk result (AllStatements is_form) }
     ensures refused { (bad : _) → result ≡ Err (fault.Refused bad) → script_of bytes.now ≡ Err bad }
 {
     let mut parser = Parser::new(alloc, bytes)?;

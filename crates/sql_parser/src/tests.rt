@@ -33,58 +33,61 @@ const LIMIT: ParseKind = ParseKind::Limit;
 
 const BIG: ParseKind = ParseKind::BigNumber;
 
+/// Bytes that are no script, and the first place that is wrong.
+const REFUSED: [(&str, u32, u32, ParseKind); 29] = [
+    ("SELECT 1;", 1, 9, SYNTAX),
+    ("SELECT COUNT(*) FROM t JOIN u ON t.a = u.a;", 1, 24, SYNTAX),
+    (
+        "SELECT COUNT(*) FROM t INNER JOIN u ON a = b;",
+        1,
+        24,
+        SYNTAX,
+    ),
+    (
+        "SELECT a FROM t JOIN u ON t.a = u.a GROUP BY a;",
+        1,
+        37,
+        SYNTAX,
+    ),
+    (
+        "CREATE TABLE t (a TEXT);\nINSERT INTO t VALUES ('x);",
+        2,
+        23,
+        ParseKind::OpenText,
+    ),
+    ("SELECT ? FROM t;", 1, 8, ParseKind::BadChar),
+    // a token that stands before bytes that are none
+    ("SELECT FROM ?", 1, 8, SYNTAX),
+    // bytes that are no token where a token is wanted
+    ("SELECT * FROM ?", 1, 15, ParseKind::BadChar),
+    ("SELECT * FROM t", 1, 16, SYNTAX),
+    ("SELECT * FROM t -- no end\n", 2, 1, SYNTAX),
+    ("BEGIN;", 1, 1, SYNTAX),
+    ("@a SELECT * FROM t;", 1, 1, SYNTAX),
+    ("COMPACT t;", 1, 1, SYNTAX),
+    ("PARALLEL { }", 1, 1, SYNTAX),
+    ("CREATE TABLE select (a INT);", 1, 14, SYNTAX),
+    ("CREATE TABLE t (a INT,);", 1, 23, SYNTAX),
+    ("INSERT INTO t VALUES (- 'x');", 1, 25, SYNTAX),
+    ("SELECT a FROM t WHERE a = b = c;", 1, 29, SYNTAX),
+    ("SELECT a FROM t WHERE a IS 1;", 1, 28, SYNTAX),
+    ("SELECT a AS FROM t;", 1, 13, SYNTAX),
+    ("SELECT a FROM t ORDER BY -1;", 1, 26, SYNTAX),
+    ("SELECT a FROM t LIMIT a;", 1, 23, SYNTAX),
+    ("UPDATE t SET a + 1;", 1, 16, SYNTAX),
+    ("DELETE t;", 1, 8, SYNTAX),
+    ("INSERT INTO t VALUES (9223372036854775808);", 1, 23, BIG),
+    ("INSERT INTO t VALUES (-9223372036854775809);", 1, 24, BIG),
+    ("SELECT 1 - 9223372036854775808 FROM t;", 1, 12, BIG),
+    // where no number may stand, too
+    ("CREATE 9223372036854775808;", 1, 8, BIG),
+    ("SELECT a FROM t LIMIT 9223372036854775808;", 1, 23, BIG),
+];
+
 #[test]
 fn refused_at_the_first_place(rt: HostRuntime) -> Result<(), Fail> {
     let alloc = rt.alloc();
-    for (text, line, column, kind) in [
-        ("SELECT 1;", 1, 9, SYNTAX),
-        ("SELECT COUNT(*) FROM t JOIN u ON t.a = u.a;", 1, 24, SYNTAX),
-        (
-            "SELECT COUNT(*) FROM t INNER JOIN u ON a = b;",
-            1,
-            24,
-            SYNTAX,
-        ),
-        (
-            "SELECT a FROM t JOIN u ON t.a = u.a GROUP BY a;",
-            1,
-            37,
-            SYNTAX,
-        ),
-        (
-            "CREATE TABLE t (a TEXT);\nINSERT INTO t VALUES ('x);",
-            2,
-            23,
-            ParseKind::OpenText,
-        ),
-        ("SELECT ? FROM t;", 1, 8, ParseKind::BadChar),
-        // a token that stands before bytes that are none
-        ("SELECT FROM ?", 1, 8, SYNTAX),
-        // bytes that are no token where a token is wanted
-        ("SELECT * FROM ?", 1, 15, ParseKind::BadChar),
-        ("SELECT * FROM t", 1, 16, SYNTAX),
-        ("SELECT * FROM t -- no end\n", 2, 1, SYNTAX),
-        ("BEGIN;", 1, 1, SYNTAX),
-        ("@a SELECT * FROM t;", 1, 1, SYNTAX),
-        ("COMPACT t;", 1, 1, SYNTAX),
-        ("PARALLEL { }", 1, 1, SYNTAX),
-        ("CREATE TABLE select (a INT);", 1, 14, SYNTAX),
-        ("CREATE TABLE t (a INT,);", 1, 23, SYNTAX),
-        ("INSERT INTO t VALUES (- 'x');", 1, 25, SYNTAX),
-        ("SELECT a FROM t WHERE a = b = c;", 1, 29, SYNTAX),
-        ("SELECT a FROM t WHERE a IS 1;", 1, 28, SYNTAX),
-        ("SELECT a AS FROM t;", 1, 13, SYNTAX),
-        ("SELECT a FROM t ORDER BY -1;", 1, 26, SYNTAX),
-        ("SELECT a FROM t LIMIT a;", 1, 23, SYNTAX),
-        ("UPDATE t SET a + 1;", 1, 16, SYNTAX),
-        ("DELETE t;", 1, 8, SYNTAX),
-        ("INSERT INTO t VALUES (9223372036854775808);", 1, 23, BIG),
-        ("INSERT INTO t VALUES (-9223372036854775809);", 1, 24, BIG),
-        ("SELECT 1 - 9223372036854775808 FROM t;", 1, 12, BIG),
-        // where no number may stand, too
-        ("CREATE 9223372036854775808;", 1, 8, BIG),
-        ("SELECT a FROM t LIMIT 9223372036854775808;", 1, 23, BIG),
-    ] {
+    for (text, line, column, kind) in REFUSED {
         let wanted = ScriptBad { line, column, kind };
         assert_eq!(rt; refusal(alloc, text.as_bytes())?, Some(wanted), "{text}");
     }

@@ -233,6 +233,11 @@ abbrev pub sign_or_bad : ℕ → Option Sign → Front
 sign_or_bad size None = Bad BadChar
 sign_or_bad size (Some s) = Token (token.Sign s) size
 
+-- a sign and the number of its bytes, as what stands at the front
+abbrev pub sized_sign_or_bad : Option (Sign × ℕ) → Front
+sized_sign_or_bad None = Bad BadChar
+sized_sign_or_bad (Some s) = Token (token.Sign s.0) s.1
+
 -- the longest sign that fits
 unfoldable pub sign_front : List ℕ → Front
 sign_front [] = Bad BadChar

@@ -1,5 +1,5 @@
-ghost use Rattle.std.specs.Prelude.{◌≡◌, length};
-ghost use Rattle.sql_tokens.specs.Tokens.{single_sign, double_sign, sign_or_bad, sign_front, sign_text, IsWithin};
+ghost use Rattle.std.specs.Prelude.{◌≡◌, ◌<◌, ◌≤◌, length, IfSome};
+ghost use Rattle.sql_tokens.specs.Tokens.{single_sign, double_sign, sized_sign_or_bad, sign_front, sign_text, IsWithin};
 
 use crate::fronts::Front;
 use crate::{Lexeme, ParseKind};
@@ -57,24 +57,25 @@ pub fn read_sign(bytes: &[u8]) -> Front
     ensures value { result ≡ sign_front bytes.now }
     ensures within { IsWithin (length bytes.now) result }
 {
-    match bytes {
-        [first, second, ..] => match double_sign(*first, *second) {
-            Some(sign) => Front::Token(Lexeme::Sign(sign), 2),
-            None => read_single_sign(*first),
-        },
-        [first] => read_single_sign(*first),
-        [] => Front::Bad(ParseKind::BadChar),
+    match sign_at_front(bytes) {
+        Some((sign, size)) => Front::Token(Lexeme::Sign(sign), size),
+        None => Front::Bad(ParseKind::BadChar),
     }
 }
 
-fn read_single_sign(byte: u8) -> Front
-    ensures value { result ≡ sign_or_bad 1 (single_sign byte) }
-    ensures within { IsWithin 1 result }
+/// The longest sign at the front, with the number of its bytes.
+#[tactic(auto, unfolding(crate::specs::Tokens::sign_front))]
+fn sign_at_front(bytes: &[u8]) -> Option<(Sign, usize)>
+    ensures value { sign_front bytes.now ≡ sized_sign_or_bad result }
+    ensures within { IfSome result (λ found. (0 < found.1) × (found.1 ≤ length bytes.now)) }
 {
-    match single_sign(byte) {
-        Some(sign) => Front::Token(Lexeme::Sign(sign), 1),
-        None => Front::Bad(ParseKind::BadChar),
+    let (first, behind) = bytes.split_first()?;
+    if let Some(second) = behind.first()
+        && let Some(sign) = double_sign(*first, *second)
+    {
+        return Some((sign, 2));
     }
+    single_sign(*first).map(|sign| (sign, 1))
 }
 
 #[tactic(auto, unfolding(crate::specs::Tokens::double_sign))]

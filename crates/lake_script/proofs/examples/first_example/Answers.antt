@@ -1,17 +1,29 @@
-use Rattle.std.proofs.Common.{◌≡◌, [], ◌∷◌, refl, inl, inr, arith}
+use Rattle.lake_script.proofs.FirstExample.{query_result, seen}
+use Rattle.std.proofs.Common.{◌≡◌, ℕ, List, [], length, Ok, Err, Result, take, refl, ap, inl, inr, arith}
+use Rattle.std.specs.Prelude.{codes}
+use Rattle.lake_model.specs.declared.replies.Reply.{Reply}
 use Rattle.lake_model.specs.declared.replies.Reply.TheVariants.{Rows}
-use Rattle.lake_script.specs.Examples.{row}
+use Rattle.lake_model.specs.declared.statements.Statement.TheVariants.{Select}
+use Rattle.lake_model.specs.Allowed.{IsPartOf}
+use Rattle.lake_model.specs.declared.replies.Refusal.{Refusal}
+use Rattle.lake_model.specs.Writing.{Effect, result_over}
+use Rattle.lake_model.specs.State.{state, view}
+use Rattle.lake_model.specs.Versions.{all_rows}
+use Rattle.lake_script.specs.Examples.{entries, query_of}
 use Rattle.sql_tokens.specs.Tokens.{keyword_of, word, number, closed_text, text, session, double_sign, single_sign, sign_front, front, gap}
 use Rattle.sql_tokens.specs.Scans.{scan, scan_behind}
 use Rattle.sql_parser.specs.Ahead.{most_levels}
 use Rattle.sql_parser.specs.Grammar.{literal, reference, parenthesized, factor, binary_op, product, sum, null_check, tested, test, negated, negation, conjunction, disjunction, expression, where_clause, column_type, column, columns, distribution, create, tuple, insert, alias, counted_rows, count, argument, aggregate, item, second_name, source, same, join, group_clause, items, head, grouped, ungrouped, joins, body_behind_aggregate, body, order_by, direction, order_key, order_clause, limit_clause, tail, select, set, update, delete, statement, line, lines, script}
 use Rattle.sql_parser.specs.Scripts.{script_of}
-use Rattle.lake_script.specs.Scripts.{runs}
 use Rattle.lake_script.proofs.examples.first_example.Goals as goal
 
 pub returns-clause-script : goal.returns-clause-script
-unfolding runs script_of most_levels scan scan_behind keyword_of word number closed_text text session double_sign single_sign sign_front front gap literal reference parenthesized factor binary_op product sum null_check tested test negated negation conjunction disjunction expression where_clause column_type column columns distribution create tuple insert alias counted_rows count argument aggregate item second_name source same join group_clause items head grouped ungrouped joins body_behind_aggregate body order_by direction order_key order_clause limit_clause tail select set update delete statement line lines script
+unfolding script_of most_levels scan scan_behind keyword_of word number closed_text text session double_sign single_sign sign_front front gap literal reference parenthesized factor binary_op product sum null_check tested test negated negation conjunction disjunction expression where_clause column_type column columns distribution create tuple insert alias counted_rows count argument aggregate item second_name source same join group_clause items head grouped ungrouped joins body_behind_aggregate body order_by direction order_key order_clause limit_clause tail select set update delete statement line lines script
 returns-clause-script c = refl
+
+-- no rows are part of all rows
+nothing : {X : Type 0} (ys : List X) → IsPartOf [] ys
+nothing ys = (ys, λ g. refl)
 
 pub returns-clause-legal : goal.returns-clause-legal
 returns-clause-legal c = (
@@ -19,10 +31,10 @@ returns-clause-legal c = (
   (
     (refl, refl, refl),
     (
-      (refl, (refl, tt), tt),
+      (nothing [], (refl, tt), tt),
       (
         (refl, refl, refl, refl),
-        ((refl, refl, refl), ((refl, tt, refl), (refl, tt))),
+        ((refl, refl, refl), ((nothing (all_rows (view (state (take 5 entries)) 1)), tt, refl), (refl, tt))),
       ),
     ),
   ),
@@ -33,26 +45,33 @@ returns-clause-follows c = record {
   runs = (
     record { row = inl refl; answers = (refl, ((refl, refl), refl), tt) },
     (
-      record { row = inr (inr (inr (inl refl))); answers = (refl, refl, (refl, (refl, (refl, refl)), (refl, (refl, refl), tt))) },
-      (record { row = inr (inr (inl refl)); answers = (refl, refl, (refl, (refl, (refl, refl)), (refl, (refl, refl), tt))) }, tt),
+      record { row = inr (inr (inr (inl refl))); answers = (refl, refl, (refl, (refl, refl), (refl, (refl, refl), tt))) },
+      (record { row = inr (inr (inl refl)); answers = (refl, refl, (refl, (refl, query_result), (refl, (refl, refl), tt))) }, tt),
     ),
   );
   no_others = (inl refl, (inr (inl refl), (inr (inl refl), (inr (inl refl), (inr (inr (inl refl)), (inr (inr (inl refl)), (inr (inr (inl refl)), tt)))))));
   order = ((inl (omega arith), (inl (omega arith), (inl (omega arith), (inl (omega arith), (inl (omega arith), (inl (omega arith), tt)))))), ((inl (omega arith), (inl (omega arith), (inl (omega arith), (inl (omega arith), (inl (omega arith), tt))))), ((inl (omega arith), (inl (omega arith), (inl (omega arith), (inl (omega arith), tt)))), ((inl (omega arith), (inl (omega arith), (inl (omega arith), tt))), ((inl (omega arith), (inl (omega arith), tt)), ((inl (omega arith), tt), (tt, tt)))))));
 }
 
+-- how many rows a statement answered
+abbrev rows_in : Reply → ℕ
+rows_in (Rows rows) = length rows
+rows_in reply = 0
+
+abbrev row_count : Result Effect Refusal → ℕ
+row_count (Ok effect) = rows_in effect.0
+row_count (Err refusal) = 0
+
+three_rows : row_count (result_over seen 1 (Select (query_of (codes "t")))) ≡ 2 → ⊥
+three_rows two = let three : row_count (result_over seen 1 (Select (query_of (codes "t")))) ≡ 3 = ap row_count query_result in absurd (omega (arith, two, three))
+
 pub returns-clause-row_left_out : goal.returns-clause-row_left_out
-returns-clause-row_left_out c =
-    λ f. let rows : Rows (row 1 ∷ row 2 ∷ []) ≡ Rows (row 1 ∷ row 1 ∷ row 2 ∷ []) = f.runs.1.1.0.answers.2.1.1.0 in cc rows
+returns-clause-row_left_out c = λ f. three_rows (ap row_count f.runs.1.1.0.answers.2.1.1)
 
 pub returns-clause-unended : goal.returns-clause-unended
-unfolding runs script_of most_levels scan scan_behind keyword_of word number closed_text text session double_sign single_sign sign_front front gap literal reference parenthesized factor binary_op product sum null_check tested test negated negation conjunction disjunction expression where_clause column_type column columns distribution create tuple insert alias counted_rows count argument aggregate item second_name source same join group_clause items head grouped ungrouped joins body_behind_aggregate body order_by direction order_key order_clause limit_clause tail select set update delete statement line lines script
+unfolding script_of most_levels scan scan_behind keyword_of word number closed_text text session double_sign single_sign sign_front front gap literal reference parenthesized factor binary_op product sum null_check tested test negated negation conjunction disjunction expression where_clause column_type column columns distribution create tuple insert alias counted_rows count argument aggregate item second_name source same join group_clause items head grouped ungrouped joins body_behind_aggregate body order_by direction order_key order_clause limit_clause tail select set update delete statement line lines script
 returns-clause-unended c = refl
 
 pub returns-clause-other_query : goal.returns-clause-other_query
-unfolding runs script_of most_levels scan scan_behind keyword_of word number closed_text text session double_sign single_sign sign_front front gap literal reference parenthesized factor binary_op product sum null_check tested test negated negation conjunction disjunction expression where_clause column_type column columns distribution create tuple insert alias counted_rows count argument aggregate item second_name source same join group_clause items head grouped ungrouped joins body_behind_aggregate body order_by direction order_key order_clause limit_clause tail select set update delete statement line lines script
+unfolding script_of most_levels scan scan_behind keyword_of word number closed_text text session double_sign single_sign sign_front front gap literal reference parenthesized factor binary_op product sum null_check tested test negated negation conjunction disjunction expression where_clause column_type column columns distribution create tuple insert alias counted_rows count argument aggregate item second_name source same join group_clause items head grouped ungrouped joins body_behind_aggregate body order_by direction order_key order_clause limit_clause tail select set update delete statement line lines script
 returns-clause-other_query c = refl
-
-pub returns-clause-not_yet : goal.returns-clause-not_yet
-unfolding runs script_of most_levels scan scan_behind keyword_of word number closed_text text session double_sign single_sign sign_front front gap literal reference parenthesized factor binary_op product sum null_check tested test negated negation conjunction disjunction expression where_clause column_type column columns distribution create tuple insert alias counted_rows count argument aggregate item second_name source same join group_clause items head grouped ungrouped joins body_behind_aggregate body order_by direction order_key order_clause limit_clause tail select set update delete statement line lines script
-returns-clause-not_yet c = refl

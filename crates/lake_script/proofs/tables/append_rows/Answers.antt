@@ -1,5 +1,10 @@
-use Rattle.std.proofs.Common.{refl, arith}
-use Rattle.lake_script.proofs.Places.{room_at, rows_set}
+use Rattle.std.proofs.Common.{List, map, ap, ◌∙◌, arith}
+use Rattle.std.proofs.lemmas.List.{map-append}
+use Rattle.lake_model.specs.declared.entries.MarkedRow.{MarkedRow}
+use Rattle.lake_model.specs.Versions.{Table}
+use Rattle.lake_script.specs.declared.tables.Kept.{Kept}
+use Rattle.lake_script.specs.Tables.{marked_as, with_more}
+use Rattle.lake_script.proofs.Places.{room_at, changed_set}
 use Rattle.lake_script.proofs.tables.append_rows.Goals as goal
 
 pub unwrap-requires : goal.unwrap-requires
@@ -9,6 +14,8 @@ unwrap-requires c =
 
 pub returns : goal.returns
 returns c =
-    rows_set c.args.tables.now.items c.args.place c.index_mut.result.now _ c.args.rows.items
-    (omega (arith, c.args.tables.now.ok.0, c.requires.in_range)) c.index_mut.ensures.value refl refl
-    (rw c.unwrap.ensures at c.append.ensures.items)
+    let t = c.index_mut.result.now in
+    let same = rw c.unwrap.ensures at c.append.ensures.items in
+    changed_set (with_more c.args.more.items) c.args.tables.now.items c.args.place t _ c.index_mut.ensures.value
+    (let P : List MarkedRow → Table = λ rows. record { name = t.name; schema = t.schema; rows = rows } in
+    ap P (ap (λ (ks : List Kept). map (marked_as t.name) ks) same ∙ map-append (marked_as t.name) t.rows.items c.args.more.items))

@@ -1,38 +1,35 @@
-use Rattle.std.proofs.Common.{◌+◌, ◌∙◌, [], ◌∷◌, ap, refl, sym}
-use Rattle.lake_values.specs.Schemas.{TableColumns}
-use Rattle.lake_model.specs.declared.entries.Fact.TheVariants as fact
-use Rattle.lake_script.specs.Lakes.{entry_of}
-use Rattle.lake_script.proofs.Homes.{exists_makes, create_makes, home_from, run_from}
-use Rattle.lake_script.proofs.Places.{is_there, is_absent, pushed}
+use Rattle.std.proofs.Common.{◌∙◌, List, ap, subst, sym}
+use Rattle.lake_model.specs.Binding.{IsBound, IsRefused}
+use Rattle.lake_model.specs.Scopes.{TableSchemas}
+use Rattle.lake_model.specs.declared.entries.Entry.{Entry}
+use Rattle.lake_model.specs.declared.replies.Refusal.TheVariants.{TableExists}
+use Rattle.std.specs.Prelude.{ℕ, Some}
+use Rattle.lake_model.specs.Refusals.{refusal}
+use Rattle.lake_model.specs.State.{state}
+use Rattle.lake_model.specs.declared.bound.Bound.{Bound}
+use Rattle.lake_script.proofs.Committing.{bind_refused}
+use Rattle.lake_script.proofs.Making.{taken, wrong, right}
+use Rattle.lake_script.proofs.Places.{is_there, is_absent}
 use Rattle.lake_script.proofs.lakes.LakeState.create.Goals as goal
 
-pub invariant_of-self-then-is_some : goal.invariant_of-self-then-is_some
-invariant_of-self-then-is_some g c =
-    home_from (exists_makes _ _ _ _ c.self.invariant c.args.n.now c.args.table.now c.args.columns.now c.requires.first c.requires.statement
-    (is_there c.args.table.now c.self.inside.tables.items _ c.place_of.result c.as_slice.ensures.value c.place_of.ensures (sym c.is_some.ensures ∙ c.if-is_some.true)))
-    _ _ _ c.in_ok-append.ensures.ok c.in_ok-batch.ensures.batch refl
+pub refuse_create-requires-clause-cause : goal.refuse_create-requires-clause-cause
+refuse_create-requires-clause-cause g c κs within =
+    ap (λ (es : List Entry). refusal (state es) 1 c.args.n.now.statement) (sym c.self.view_is)
+    ∙ taken _ _ _ _ _ c.self.invariant c.args.n.now.statement c.args.table.now c.args.columns.now c.args.distribution.now c.requires.statement
+    (is_there c.args.table.now c.self.inside.tables.items _ c.place_of.result c.as_slice.ensures.value c.place_of.ensures (sym c.is_some.ensures ∙ c.if-is_some.true))
+    ∙ ap (λ (name : List ℕ). Some (TableExists name)) (sym c.in_ok-copy.ensures)
 
-pub returns-then-is_some-clause-ok : goal.returns-then-is_some-clause-ok
-returns-then-is_some-clause-ok g c =
-    run_from (exists_makes _ _ _ _ c.self.invariant c.args.n.now c.args.table.now c.args.columns.now c.requires.first c.requires.statement
-    (is_there c.args.table.now c.self.inside.tables.items _ c.place_of.result c.as_slice.ensures.value c.place_of.ensures (sym c.is_some.ensures ∙ c.if-is_some.true)))
-    _ _ _ _ c.in_ok-append.ensures.ok c.in_ok-batch.ensures.batch c.self.view_is (sym c.in_ok-batch.ensures.reply)
+pub make-requires-clause-none : goal.make-requires-clause-none
+make-requires-clause-none g c κs within =
+    ap (λ (es : List Entry). refusal (state es) 1 c.args.n.now.statement) (sym c.self.view_is)
+    ∙ right _ _ _ _ _ c.self.invariant c.args.n.now.statement c.args.table.now c.args.columns.now c.args.distribution.now c.requires.statement
+    (is_absent c.args.table.now c.self.inside.tables.items _ c.place_of.result c.as_slice.ensures.value c.place_of.ensures (sym c.is_some.ensures ∙ c.if-is_some.false))
+    c.in-Ok.field-0 (let P : TableSchemas → Type 0 = λ schemas. IsBound c.args.n.now.statement schemas c.in-Ok.field-0 in subst P c.empty.ensures c.in-Ok.ensures.bound)
 
-pub invariant_of-self-2 : goal.invariant_of-self-2
-invariant_of-self-2 g c =
-    home_from (create_makes _ _ _ _ c.self.invariant c.args.n.now c.args.table.now c.args.columns.now c.requires.first c.requires.statement
-    (is_absent c.args.table.now c.self.inside.tables.items _ c.place_of.result c.as_slice.ensures.value c.place_of.ensures (sym c.is_some.ensures ∙ c.if-is_some.false)))
-    _ _ _ c.in_ok-append-2.ensures.ok
-    (c.in_ok-batch-2.ensures.batch
-    ∙ ap (λ (schema : TableColumns). entry_of c.args.n.now (fact.Created c.args.table.now schema (c.self.inside.last + 1)) ∷ []) c.in_ok-schema.ensures)
-    (pushed c.self.inside.tables.items _ _ _ _ _ (rw c.unwrap.ensures at c.push.ensures.items) c.in_ok-reserve.ensures.items
-    c.in_ok-copy.ensures (c.in_ok-copy-2.ensures ∙ c.in_ok-schema.ensures) c.new.ensures.items)
-
-pub returns-clause-ok : goal.returns-clause-ok
-returns-clause-ok g c =
-    run_from (create_makes _ _ _ _ c.self.invariant c.args.n.now c.args.table.now c.args.columns.now c.requires.first c.requires.statement
-    (is_absent c.args.table.now c.self.inside.tables.items _ c.place_of.result c.as_slice.ensures.value c.place_of.ensures (sym c.is_some.ensures ∙ c.if-is_some.false)))
-    _ _ _ _ c.in_ok-append-2.ensures.ok
-    (c.in_ok-batch-2.ensures.batch
-    ∙ ap (λ (schema : TableColumns). entry_of c.args.n.now (fact.Created c.args.table.now schema (c.self.inside.last + 1)) ∷ []) c.in_ok-schema.ensures)
-    c.self.view_is (sym c.in_ok-batch-2.ensures.reply)
+pub refuse_create-requires-in-Err-Refused-clause-cause : goal.refuse_create-requires-in-Err-Refused-clause-cause
+refuse_create-requires-in-Err-Refused-clause-cause g c κs within =
+    ap (λ (es : List Entry). refusal (state es) 1 c.args.n.now.statement) (sym c.self.view_is)
+    ∙ wrong _ _ _ _ _ c.self.invariant c.args.n.now.statement c.args.table.now c.args.columns.now c.args.distribution.now c.requires.statement
+    (is_absent c.args.table.now c.self.inside.tables.items _ c.place_of.result c.as_slice.ensures.value c.place_of.ensures (sym c.is_some.ensures ∙ c.if-is_some.false))
+    c.in-Err-Refused.cause (let P : TableSchemas → Type 0 = λ schemas. IsRefused c.args.n.now.statement schemas c.in-Err-Refused.cause in
+    subst P c.empty.ensures (bind_refused Bound c.in-Err-Refused.field-0 c.in-Err-Refused.cause (λ cause. IsRefused c.args.n.now.statement c.empty.result cause) c.in-Err-Refused.field-0-is c.in-Err-Refused.ensures.refused))

@@ -1,0 +1,13 @@
+use Rattle.std.proofs.Common.{◌≡◌, map, drop}
+use Rattle.lake_model.specs.Groups as spec
+use Rattle.plain_query.specs.Aggregates.{kept_by}
+use Rattle.plain_query.specs.Lending.{owned}
+use Rattle.plain_query.proofs.aggregates.extreme_of.Given as goal
+
+abbrev pub invariant-loop-row : goal.invariant-loop-row
+invariant-loop-row g l =
+    let rows = map g.C.Cells.cells l.rows in
+    let rest = map g.C.Cells.cells (drop l.row-index l.rows) in
+    let op = kept_by l.extreme in
+    (spec.joined_by op (owned l.kept) (spec.summary op (spec.values_on l.argument rest)) ≡ spec.summary op (spec.values_on l.argument rows))
+    × (spec.argument_fits rest l.argument ≡ spec.argument_fits rows l.argument)

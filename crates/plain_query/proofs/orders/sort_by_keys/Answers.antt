@@ -1,0 +1,16 @@
+use Rattle.std.proofs.Common.{rules, List}
+use Rattle.std.proofs.lemmas.Fn.{always_returns_same}
+use Rattle.std.proofs.lemmas.List.Sorted.{ranks_by}
+use Rattle.std.specs.Ordering.{is_lt}
+use Rattle.lake_values.specs.declared.values.Value.{Value}
+use Rattle.lake_model.specs.Query.{order_cmp}
+use Rattle.lake_model.proofs.BagLaw.{order_total, order_tells}
+use Rattle.lake_model.proofs.Sorting.{ordered_from_sort}
+use Rattle.plain_query.proofs.orders.sort_by_keys.Goals as goal
+
+pub returns : goal.returns
+returns c =
+    let keys = c.args.keys.now in
+    let total = order_total keys in
+    ordered_from_sort total (order_tells keys) _ _ c.in_ok-sort_by.ensures.permutation
+    (c.in_ok-sort_by.ensures.sorted (λ (a b : List Value). is_lt (order_cmp keys a b)) (ranks_by total (λ (r : List Value). r)) (always_returns_same _ _ _ (λ a r f k. search rules)))
