@@ -1,7 +1,7 @@
 -- Positions that ascend, by cases on the list.
-use Rattle.std.proofs.Common.{◌≡◌, ℕ, zero, suc, ◌+◌, ◌<◌, ◌≤◌, Bool, true, false, ◌||◌, eqb, List, [], ◌∷◌, ◌++◌, length, get_or, take, drop, Option, Some, None, Result, Ok, Err, refl, sym, ap, subst, ◌∙◌, append_assoc, arith, inl, inr}
+use Rattle.std.proofs.Common.{◌≡◌, ℕ, zero, suc, ◌+◌, ◌<◌, ◌≤◌, Bool, true, false, ◌||◌, eqb, List, [], ◌∷◌, ◌++◌, length, get_or, take, drop, nat_le, Option, Some, None, Result, Ok, Err, refl, sym, ap, subst, ◌∙◌, append_assoc, arith, inl, inr}
 use Rattle.std.specs.Prelude.{is_ok, MatchResult, IfOk, IfErr, ◌==◌}
-use Rattle.std.specs.List.{insert}
+use Rattle.std.specs.List.{insert, filter}
 use Rattle.std.specs.List.Sorted.{IsStrictlyIncreasing, IsBinarySearchResult}
 use Rattle.std.specs.Ordering.{nat_cmp}
 use Rattle.std.proofs.lemmas.Bool.{ltb-true, lt-ltb, eq-eqb, ne_eqb, cases_eq, cases_lt}
@@ -134,3 +134,47 @@ present p xs r up is = at_found p xs r (searched xs p r is (non_decreasing xs up
     at_found : (p : ℕ) (xs : List ℕ) (r : Result ℕ ℕ) → MatchResult r (λ i. (i < length xs) × (get_or xs i 0 ≡ p)) (λ i. (i ≤ length xs) × ((k : ℕ) → k < i → get_or xs k 0 < p) × ((k : ℕ) → i ≤ k → k < length xs → p < get_or xs k 0)) → IfOk r (λ i. get_or xs i 0 ≡ p)
     at_found p xs (Ok i) h = h.1
     at_found p xs (Err i) h = tt
+
+pub inside : (p : ℕ) (xs : List ℕ) (r : Result ℕ ℕ) → IsStrictlyIncreasing xs → IsBinarySearchResult (λ y. nat_cmp y p) xs r → IfOk r (λ i. i < length xs)
+inside p xs r up is = at_found p xs r (searched xs p r is (non_decreasing xs up))
+  where
+    at_found : (p : ℕ) (xs : List ℕ) (r : Result ℕ ℕ) → MatchResult r (λ i. (i < length xs) × (get_or xs i 0 ≡ p)) (λ i. (i ≤ length xs) × ((k : ℕ) → k < i → get_or xs k 0 < p) × ((k : ℕ) → i ≤ k → k < length xs → p < get_or xs k 0)) → IfOk r (λ i. i < length xs)
+    at_found p xs (Ok i) h = h.0
+    at_found p xs (Err i) h = tt
+
+-- ---- the positions from a bound on
+
+above_passes : (bound x : ℕ) → bound ≤ x → nat_le bound x ≡ true
+above_passes bound x h = grind (arith, h)
+
+below_fails : (bound x : ℕ) → x < bound → nat_le bound x ≡ false
+below_fails bound x h = grind (arith, h)
+
+-- A place in a list of positions: those before it are below the bound, and the others aren't.
+pub record IsPlace (bound : ℕ) (xs : List ℕ) (i : ℕ) : Type 0 where
+  pub within : i ≤ length xs
+  pub below : (k : ℕ) → k < i → get_or xs k 0 < bound
+  pub above : (k : ℕ) → i ≤ k → k < length xs → bound ≤ get_or xs k 0
+
+pub drop-from_place : (bound : ℕ) (xs : List ℕ) (i : ℕ) → IsPlace bound xs i → drop i xs ≡ filter (λ x. nat_le bound x) xs
+drop-from_place bound [] zero place = refl
+drop-from_place bound [] (suc i) place = refl
+drop-from_place bound (x ∷ xs) zero place =
+    let passes = above_passes bound x (place.above 0 (omega arith) (omega arith)) in
+    let others = drop-from_place bound xs zero (record { within = omega arith; below = λ k lt. absurd (omega arith); above = λ k le lt. place.above (suc k) (omega arith) (omega arith) }) in
+    rw passes (ap (λ (l : List ℕ). x ∷ l) others)
+drop-from_place bound (x ∷ xs) (suc i) place =
+    let fails = below_fails bound x (place.below 0 (omega arith)) in
+    let within = place.within in
+    let others = drop-from_place bound xs i (record { within = omega (arith, within); below = λ k lt. place.below (suc k) (omega arith); above = λ k le lt. place.above (suc k) (omega arith) (omega arith) }) in
+    rw fails others
+
+pub IsPlace-found : (bound : ℕ) (xs : List ℕ) (i : ℕ) → IsStrictlyIncreasing xs → i < length xs → get_or xs i 0 ≡ bound → IsPlace bound xs i
+IsPlace-found bound xs i up lt is = record {
+  within = omega arith;
+  below = λ k less. let below = AllPairs-from_increasing xs up k i 0 less lt in omega (arith, below, is);
+  above = λ k le within. let above = non_decreasing xs up i k le within in omega (arith, above, is);
+}
+
+pub IsPlace-absent : (bound : ℕ) (xs : List ℕ) (i : ℕ) → i ≤ length xs → ((k : ℕ) → k < i → get_or xs k 0 < bound) → ((k : ℕ) → i ≤ k → k < length xs → bound < get_or xs k 0) → IsPlace bound xs i
+IsPlace-absent bound xs i within below above = record { within = within; below = below; above = λ k le lt. let less = above k le lt in omega (arith, less) }

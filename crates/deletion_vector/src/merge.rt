@@ -1,6 +1,6 @@
 //! Strictly ascending positions, as slices.
 
-ghost use Rattle.std.specs.Prelude.{◌≡◌, ◌||◌, ◌<◌, ◌≤◌, ℕ, length, slice_index, IfOk, IfErr, is_ok};
+ghost use Rattle.std.specs.Prelude.{◌≡◌, ◌||◌, ◌<◌, ◌≤◌, ℕ, filter, length, nat_le, slice_index, IfOk, IfErr, is_ok};
 ghost use Rattle.std.specs.List.Sorted.{IsStrictlyIncreasing};
 ghost use Rattle.deletion_vector.specs.Positions.{has};
 
@@ -13,11 +13,25 @@ pub fn place_of(positions: &[u64], position: u64) -> Result<usize, usize>
     requires { IsStrictlyIncreasing positions.now }
     ensures found { is_ok result ≡ has position positions.now }
     ensures place { IfOk result (λ i. slice_index positions.now i ≡ position) }
+    ensures inside { IfOk result (λ i. i < length positions.now) }
     ensures within { IfErr result (λ i. i ≤ length positions.now) }
     ensures below { IfErr result (λ i. (k : ℕ) → k < i → slice_index positions.now k < position) }
     ensures above { IfErr result (λ i. (k : ℕ) → i ≤ k → k < length positions.now → position < slice_index positions.now k) }
 {
     positions.binary_search(&position)
+}
+
+/// The positions from a bound on.
+pub fn from_bound(positions: &[u64], bound: u64) -> &[u64]
+    requires { IsStrictlyIncreasing positions.now }
+    ensures list { result.now ≡ filter (λ position. nat_le bound position) positions.now }
+    ensures ascending { IsStrictlyIncreasing result.now }
+{
+    let place = match place_of(positions, bound) {
+        Ok(place) | Err(place) => place,
+    };
+    let (_, rest) = positions.split_at(place);
+    rest
 }
 
 /// The positions of both, in one pass.

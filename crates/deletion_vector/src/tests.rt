@@ -42,6 +42,9 @@ fn sets(rt: HostRuntime) -> Result<(), Fail> {
     }
     let both = vector.merge(&other)?;
     assert_eq!(rt; both.positions(), [1, 2, 3, 5].as_slice());
+    assert_eq!(rt; both.positions_from(3), [3, 5].as_slice());
+    assert_eq!(rt; both.positions_from(4), [5].as_slice());
+    assert!(rt; both.positions_from(6).is_empty());
     Ok(())
 }
 

@@ -1,11 +1,11 @@
-ghost use Rattle.std.specs.Prelude.{◌≡◌, ◌==◌, ◌||◌, ◌↔◌, ℕ, List, [], length, not, IsTrue, OnOk, OnErr, IfOk, Ok};
+ghost use Rattle.std.specs.Prelude.{◌≡◌, ◌==◌, ◌||◌, ◌↔◌, ℕ, List, [], filter, length, nat_le, not, IsTrue, OnOk, OnErr, IfOk, Ok};
 ghost use Rattle.std.specs.List.Sorted.{IsStrictlyIncreasing};
 ghost use Rattle.lake_values.specs.Spelling.{NoneBegins};
 ghost use Rattle.lake_values.specs.Reading.{Gives, whole};
 ghost use Rattle.deletion_vector.specs.Positions.{has, IsVector};
 ghost use Rattle.deletion_vector.specs.Spelling.{vector_spelling, vector_at};
 
-use crate::merge::{merged, place_of};
+use crate::merge::{from_bound, merged, place_of};
 use crate::read::read_vector;
 use lake_values::{DecodeFault, NoMemory, write_u64};
 use std::alloc::Global;
@@ -64,6 +64,15 @@ impl Vector {
         ensures ascending { IsStrictlyIncreasing result.now }
     {
         self.positions.as_slice()
+    }
+
+    /// The positions from a bound on, ascending. The first of them is found by binary search.
+    pub fn positions_from(&self, bound: u64) -> &[u64]
+        ensures list { result.now ≡ filter (λ position. nat_le bound position) self.now }
+        ensures ascending { IsStrictlyIncreasing result.now }
+    {
+        let positions = self.positions.as_slice();
+        from_bound(positions, bound)
     }
 
     /// Adds a position. True where it is new, false where it was there.

@@ -1,6 +1,13 @@
 pub mod Sorting
 pub mod Lists
+pub mod Pending
 pub mod Steps
+pub mod Growth
+pub mod FrameLaw
+pub mod FirstCommitter
+pub mod RightAnswers
+pub mod RightRuns
+pub mod OneText
 pub mod Bags
 pub mod Summaries
 pub mod GroupBags

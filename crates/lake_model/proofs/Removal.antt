@@ -18,7 +18,7 @@ use Rattle.lake_model.specs.declared.entries.MarkedRow.{MarkedRow}
 use Rattle.lake_model.specs.Allowed.{IsPartOf}
 use Rattle.lake_model.specs.Changes.{mark_cmp, marked_cmp, without_one, without, removed_from}
 use Rattle.lake_model.specs.Listing.{ordered, weight}
-use Rattle.lake_model.specs.Versions.{Table, Version, same_text, marked_rows_of, all_rows}
+use Rattle.lake_model.specs.Versions.{Table, Tables, same_text, marked_rows_of, all_rows}
 use Rattle.lake_model.proofs.Bags.{weight_append, same_if_swaps}
 use Rattle.lake_model.proofs.Lists.{all_weaker}
 use Rattle.lake_model.proofs.Sorting.{all_placed, weight_ordered}
@@ -61,60 +61,60 @@ tied_tells x y e = marked_tells x y ((Equal-is (marked_cmp x y)).0 e)
 
 -- two removals swap
 
-one_by_one : (x y : MarkedRow) (rows : List MarkedRow) → without_one (without_one rows x) y ≡ without_one (without_one rows y) x
+one_by_one : (x y : MarkedRow) (rows : List MarkedRow) → without_one marked_cmp (without_one marked_cmp rows x) y ≡ without_one marked_cmp (without_one marked_cmp rows y) x
 one_by_one x y [] = refl
 one_by_one x y (r ∷ rs) =
-    elim (is_eq (marked_cmp x r)) as (λ a. is_eq (marked_cmp x r) ≡ a → without_one (if a then rs else r ∷ without_one rs x) y ≡ without_one (if is_eq (marked_cmp y r) then rs else r ∷ without_one rs y) x) [
+    elim (is_eq (marked_cmp x r)) as (λ a. is_eq (marked_cmp x r) ≡ a → without_one marked_cmp (if a then rs else r ∷ without_one marked_cmp rs x) y ≡ without_one marked_cmp (if is_eq (marked_cmp y r) then rs else r ∷ without_one marked_cmp rs y) x) [
       | true ↦ λ e.
-          elim (is_eq (marked_cmp y r)) as (λ b. is_eq (marked_cmp y r) ≡ b → without_one rs y ≡ without_one (if b then rs else r ∷ without_one rs y) x) [
-            | true ↦ λ f. ap (without_one rs) (tied_tells y r f ∙ sym (tied_tells x r e))
+          elim (is_eq (marked_cmp y r)) as (λ b. is_eq (marked_cmp y r) ≡ b → without_one marked_cmp rs y ≡ without_one marked_cmp (if b then rs else r ∷ without_one marked_cmp rs y) x) [
+            | true ↦ λ f. ap (without_one marked_cmp rs) (tied_tells y r f ∙ sym (tied_tells x r e))
             | false ↦ λ f. rw e refl
           ] refl
       | false ↦ λ e.
-          elim (is_eq (marked_cmp y r)) as (λ b. is_eq (marked_cmp y r) ≡ b → (if b then without_one rs x else r ∷ without_one (without_one rs x) y) ≡ without_one (if b then rs else r ∷ without_one rs y) x) [
+          elim (is_eq (marked_cmp y r)) as (λ b. is_eq (marked_cmp y r) ≡ b → (if b then without_one marked_cmp rs x else r ∷ without_one marked_cmp (without_one marked_cmp rs x) y) ≡ without_one marked_cmp (if b then rs else r ∷ without_one marked_cmp rs y) x) [
             | true ↦ λ f. refl
             | false ↦ λ f. rw e (ap (λ (ms : List MarkedRow). r ∷ ms) (one_by_one x y rs))
           ] refl
     ] refl
 
 -- in whatever order they are removed, the same stand
-without_ordered : (rows removed : List MarkedRow) → without rows (ordered marked_cmp removed) ≡ without rows removed
+without_ordered : (rows removed : List MarkedRow) → without marked_cmp rows (ordered marked_cmp removed) ≡ without marked_cmp rows removed
 without_ordered rows removed =
     ap (λ (f : List MarkedRow → List MarkedRow). f rows)
-    (same_if_swaps marked_total marked_tells (λ (xs ms : List MarkedRow). without ms xs)
-    (λ x xs ys e. ap (λ (f : List MarkedRow → List MarkedRow). λ (ms : List MarkedRow). f (without_one ms x)) e)
-    (λ x y xs. λ i ms. without (one_by_one x y ms i) xs)
+    (same_if_swaps marked_total marked_tells (λ (xs ms : List MarkedRow). without marked_cmp ms xs)
+    (λ x xs ys e. ap (λ (f : List MarkedRow → List MarkedRow). λ (ms : List MarkedRow). f (without_one marked_cmp ms x)) e)
+    (λ x y xs. λ i ms. without marked_cmp (one_by_one x y ms i) xs)
     (ordered marked_cmp removed) removed (weight_ordered marked_cmp removed))
 
 -- a row that none of the removed is stays in front
 stays_first : (q : MarkedRow → Bool) (m : MarkedRow) → q m ≡ false → (removed : List MarkedRow) → AllByRecursion (λ x. q x ≡ true) removed → (rows : List MarkedRow)
-    → without (m ∷ rows) removed ≡ m ∷ without rows removed
+    → without marked_cmp (m ∷ rows) removed ≡ m ∷ without marked_cmp rows removed
 stays_first q m fails [] all rows = refl
 stays_first q m fails (x ∷ xs) all rows =
-    elim (is_eq (marked_cmp x m)) as (λ b. is_eq (marked_cmp x m) ≡ b → without (if b then rows else m ∷ without_one rows x) xs ≡ m ∷ without (without_one rows x) xs) [
+    elim (is_eq (marked_cmp x m)) as (λ b. is_eq (marked_cmp x m) ≡ b → without marked_cmp (if b then rows else m ∷ without_one marked_cmp rows x) xs ≡ m ∷ without marked_cmp (without_one marked_cmp rows x) xs) [
       | true ↦ λ e. let same : q x ≡ q m = ap q (tied_tells x m e) in let passes : q x ≡ true = all.0 in absurd cc
-      | false ↦ λ e. stays_first q m fails xs all.1 (without_one rows x)
+      | false ↦ λ e. stays_first q m fails xs all.1 (without_one marked_cmp rows x)
     ] refl
 
-without_first : (m : MarkedRow) (ms : List MarkedRow) → without_one (m ∷ ms) m ≡ ms
-without_first m ms = ap (λ (r : Ordering). if is_eq r then ms else m ∷ without_one ms m) (tied_itself marked_total m)
+without_first : (m : MarkedRow) (ms : List MarkedRow) → without_one marked_cmp (m ∷ ms) m ≡ ms
+without_first m ms = ap (λ (r : Ordering). if is_eq r then ms else m ∷ without_one marked_cmp ms m) (tied_itself marked_total m)
 
-without_filtered : (q : MarkedRow → Bool) (rows : List MarkedRow) → without rows (filter q rows) ≡ filter (λ m. not (q m)) rows
+without_filtered : (q : MarkedRow → Bool) (rows : List MarkedRow) → without marked_cmp rows (filter q rows) ≡ filter (λ m. not (q m)) rows
 without_filtered q [] = refl
 without_filtered q (m ∷ ms) =
-    elim (q m) as (λ b. q m ≡ b → without (m ∷ ms) (cond b (m ∷ filter q ms) (filter q ms)) ≡ cond (not b) (m ∷ filter (λ m. not (q m)) ms) (filter (λ m. not (q m)) ms)) [
-      | true ↦ λ e. ap (λ (rows : List MarkedRow). without rows (filter q ms)) (without_first m ms) ∙ without_filtered q ms
+    elim (q m) as (λ b. q m ≡ b → without marked_cmp (m ∷ ms) (cond b (m ∷ filter q ms) (filter q ms)) ≡ cond (not b) (m ∷ filter (λ m. not (q m)) ms) (filter (λ m. not (q m)) ms)) [
+      | true ↦ λ e. ap (λ (rows : List MarkedRow). without marked_cmp rows (filter q ms)) (without_first m ms) ∙ without_filtered q ms
       | false ↦ λ e. stays_first q m e (filter q ms) (recursion_from_All (λ x. q x ≡ true) (filter q ms) (filter_passes q ms)) ms ∙ ap (λ (rows : List MarkedRow). m ∷ rows) (without_filtered q ms)
     ] refl
 
 -- without the rows that pass, those stand that don't
-pub without_matched : (p : List Value → Bool) (rows : List MarkedRow) → without rows (ordered marked_cmp (filter (λ m. p m.row) rows)) ≡ filter (λ m. not (p m.row)) rows
+pub without_matched : (p : List Value → Bool) (rows : List MarkedRow) → without marked_cmp rows (ordered marked_cmp (filter (λ m. p m.row) rows)) ≡ filter (λ m. not (p m.row)) rows
 without_matched p rows = without_ordered rows (filter (λ m. p m.row) rows) ∙ without_filtered (λ m. p m.row) rows
 
 -- what stands among others
 
-pub nothing_part : (version : Version) → IsPartOf [] (all_rows version)
-nothing_part version = (all_rows version, λ g. refl)
+pub nothing_part : (tables : Tables) → IsPartOf [] (all_rows tables)
+nothing_part tables = (all_rows tables, λ g. refl)
 
 part_ordered : {X : Type 0} (cmp : X → X → Ordering) (xs ys : List X) → IsPartOf xs ys → IsPartOf (ordered cmp xs) ys
 part_ordered cmp xs ys part = (part.0, λ g. omega (arith, weight_append g (ordered cmp xs) part.0, weight_append g xs part.0, weight_ordered cmp xs g, part.1 g))
@@ -142,7 +142,7 @@ part_behind xs front ys part = (
   λ g. omega (arith, weight_append g xs (front ++ part.0), weight_append g front part.0, weight_append g xs part.0, weight_append g front ys, part.1 g),
 )
 
-table_part : (table : List ℕ) (version : Version) → IsPartOf (marked_rows_of table version) (all_rows version)
+table_part : (table : List ℕ) (tables : Tables) → IsPartOf (marked_rows_of table tables) (all_rows tables)
 table_part table [] = ([], λ g. refl)
 table_part table (t ∷ ts) =
     elim (same_text t.name table) as (λ b. IsPartOf (option_map_or (λ t. t.rows) (cond b (Some t) (find (λ t. same_text t.name table) ts)) []) (t.rows ++ all_rows ts)) [
@@ -150,11 +150,11 @@ table_part table (t ∷ ts) =
       | false ↦ part_behind (marked_rows_of table ts) t.rows (all_rows ts) (table_part table ts)
     ]
 
-pub matched_part : (p : List Value → Bool) (table : List ℕ) (version : Version) → IsPartOf (ordered marked_cmp (filter (λ m. p m.row) (marked_rows_of table version))) (all_rows version)
-matched_part p table version =
-    let rows = marked_rows_of table version in
-    part_ordered marked_cmp (filter (λ m. p m.row) rows) (all_rows version)
-    (part_trans (filter (λ m. p m.row) rows) rows (all_rows version) (part_filter (λ m. p m.row) rows) (table_part table version))
+pub matched_part : (p : List Value → Bool) (table : List ℕ) (tables : Tables) → IsPartOf (ordered marked_cmp (filter (λ m. p m.row) (marked_rows_of table tables))) (all_rows tables)
+matched_part p table tables =
+    let rows = marked_rows_of table tables in
+    part_ordered marked_cmp (filter (λ m. p m.row) rows) (all_rows tables)
+    (part_trans (filter (λ m. p m.row) rows) rows (all_rows tables) (part_filter (λ m. p m.row) rows) (table_part table tables))
 
 -- what holds of each member holds of each that passes, and in whatever order
 

@@ -1,47 +1,38 @@
 -- What holds of a chronicle after one statement more.
-use Rattle.std.proofs.Common.{◌≡◌, ℕ, ◌<◌, true, false, nat_eq, List, [], ◌∷◌, ◌++◌, refl, sym, ap, ◌∙◌, subst, arith, inl, inr, eq-eqb}
+use Rattle.std.proofs.Common.{◌≡◌, ℕ, ◌<◌, true, false, nat_eq, List, [], ◌∷◌, ◌++◌, refl, sym, ap, ◌∙◌, subst, arith, inl, inr, eq-eqb, ne_eqb}
 use Rattle.std.specs.List.{AllByRecursion, flat_map}
 use Rattle.std.proofs.lemmas.List.Elements.{filter-append}
 use Rattle.std.proofs.lemmas.List.{map-append, append-nil}
 use Rattle.std.proofs.lemmas.Grind.{flat_map-append}
-use Rattle.std.proofs.lemmas.Bool.{eqb-true}
-use Rattle.lake_model.specs.declared.entries.Entry.{Entry}
 use Rattle.lake_model.specs.declared.scripts.Numbered.{Numbered}
 use Rattle.lake_model.specs.declared.scripts.Step.{Step}
 use Rattle.lake_model.specs.declared.scripts.Step.TheVariants.{One}
-use Rattle.lake_model.specs.State.{State, opening, state, state_from, stated, after}
+use Rattle.lake_model.specs.State.{State, Noted, opening, state, state_from, stated, after}
 use Rattle.lake_model.specs.Allowed.{IsLegal, IsLegalFrom}
 use Rattle.lake_model.specs.Following.{Follows, IsAnswered, IsRun, IsOneOf, IsInOrder, MayFollow, ShareBlock, places, statements, run_at, run_of}
 use Rattle.lake_model.specs.Text.{text, statement_text, run_text}
 use Rattle.lake_model.proofs.Lists.{all_append, all_weaker, all_both, one_of_left, one_of_right}
 
-pub state_append : (st : State) (xs ys : List Entry) → state_from st (xs ++ ys) ≡ state_from (state_from st xs) ys
+pub state_append : (st : State) (xs ys : List Noted) → state_from st (xs ++ ys) ≡ state_from (state_from st xs) ys
 state_append st [] ys = refl
 state_append st (x ∷ xs) ys = state_append (after st x) xs ys
 
-pub stated_append : (st : State) (xs ys : List Entry) → stated st (xs ++ ys) ≡ stated st xs ++ stated (state_from st xs) ys
+pub stated_append : (st : State) (xs ys : List Noted) → stated st (xs ++ ys) ≡ stated st xs ++ stated (state_from st xs) ys
 stated_append st [] ys = refl
-stated_append st (x ∷ xs) ys = ap (λ (ps : List (State × Entry)). (st, x) ∷ ps) (stated_append (after st x) xs ys)
+stated_append st (x ∷ xs) ys = ap (λ (ps : List (State × Noted)). (st, x) ∷ ps) (stated_append (after st x) xs ys)
 
-pub legal_append : (st : State) (xs ys : List Entry) → IsLegalFrom st xs → IsLegalFrom (state_from st xs) ys → IsLegalFrom st (xs ++ ys)
+pub legal_append : (st : State) (xs ys : List Noted) → IsLegalFrom st xs → IsLegalFrom (state_from st xs) ys → IsLegalFrom st (xs ++ ys)
 legal_append st [] ys xs_legal ys_legal = ys_legal
 legal_append st (x ∷ xs) ys xs_legal ys_legal = (xs_legal.0, legal_append (after st x) xs ys xs_legal.1 ys_legal)
 
 -- entries of other places are none of this one
-run_at_others : (place : ℕ) (st : State) (xs : List Entry) → AllByRecursion (λ e. nat_eq e.place place ≡ false) xs → run_at place (stated st xs) ≡ []
+pub run_at_others : (place : ℕ) (st : State) (xs : List Noted) → AllByRecursion (λ e. nat_eq e.entry.place place ≡ false) xs → run_at place (stated st xs) ≡ []
 run_at_others place st [] all = refl
 run_at_others place st (x ∷ xs) all = rw all.0 (run_at_others place (after st x) xs all.1)
 
-run_at_own : (place : ℕ) (st : State) (xs : List Entry) → AllByRecursion (λ e. nat_eq e.place place ≡ true) xs → run_at place (stated st xs) ≡ stated st xs
+pub run_at_own : (place : ℕ) (st : State) (xs : List Noted) → AllByRecursion (λ e. nat_eq e.entry.place place ≡ true) xs → run_at place (stated st xs) ≡ stated st xs
 run_at_own place st [] all = refl
-run_at_own place st (x ∷ xs) all = rw all.0 (ap (λ (ps : List (State × Entry)). (st, x) ∷ ps) (run_at_own place (after st x) xs all.1))
-
-same_number : (a b : ℕ) → a ≡ b → nat_eq a b ≡ true
-same_number a b e = eq-eqb a b e
-
-other_number : (a b : ℕ) → (a ≡ b → ⊥) → nat_eq a b ≡ false
-other_number a b ne =
-    elim (nat_eq a b) as (λ t. nat_eq a b ≡ t → t ≡ false) [ true ↦ λ e. absurd (ne (eqb-true a b e)) | false ↦ λ e. refl ] refl
+run_at_own place st (x ∷ xs) all = rw all.0 (ap (λ (ps : List (State × Noted)). (st, x) ∷ ps) (run_at_own place (after st x) xs all.1))
 
 -- a place of one of these statements is below
 place_below : (place p : ℕ) (ns : List Numbered) → AllByRecursion (λ n. n.place < place) ns → IsOneOf (places ns) p → p < place
@@ -49,29 +40,29 @@ place_below place p [] all h = absurd h
 place_below place p (n ∷ ns) all (inl e) = omega (arith, e, all.0)
 place_below place p (n ∷ ns) all (inr h) = place_below place p ns all.1 h
 
-module _ (old run : List Entry) (done : List Step) (n : Numbered) (follows : Follows old done)
+module _ (old run : List Noted) (done : List Step) (n : Numbered) (follows : Follows old done)
     (below : AllByRecursion (λ m. m.place < n.place) (statements done)) (answered : IsAnswered (state old) n run) where
-  old_below : AllByRecursion (λ e. e.place < n.place) old
-  old_below = all_weaker old (λ e h. place_below n.place e.place (statements done) below h) follows.no_others
+  old_below : AllByRecursion (λ e. e.entry.place < n.place) old
+  old_below = all_weaker old (λ e h. place_below n.place e.entry.place (statements done) below h) follows.no_others
 
   split_at : (place : ℕ) → run_of place (old ++ run) ≡ run_of place old ++ run_at place (stated (state old) run)
   split_at place =
-      ap (λ (ps : List (State × Entry)). run_at place ps) (stated_append opening old run)
+      ap (λ (ps : List (State × Noted)). run_at place ps) (stated_append opening old run)
       ∙ filter-append _ (stated opening old) (stated (state old) run)
 
   run_before : (place : ℕ) → place < n.place → run_of place (old ++ run) ≡ run_of place old
   run_before place less =
       split_at place
-      ∙ ap (λ (ps : List (State × Entry)). run_of place old ++ ps)
-      (run_at_others place (state old) run (all_weaker run (λ e own. other_number e.place place (λ same. omega (arith, own, same))) answered.own))
+      ∙ ap (λ (ps : List (State × Noted)). run_of place old ++ ps)
+      (run_at_others place (state old) run (all_weaker run (λ e own. ne_eqb e.entry.place place (λ same. omega (arith, own, same))) answered.own))
       ∙ append-nil (run_of place old)
 
   run_now : run_of n.place (old ++ run) ≡ stated (state old) run
   run_now =
       split_at n.place
-      ∙ ap (λ (ps : List (State × Entry)). ps ++ run_at n.place (stated (state old) run))
-      (run_at_others n.place opening old (all_weaker old (λ e less. other_number e.place n.place (λ same. omega (arith, less, same))) old_below))
-      ∙ run_at_own n.place (state old) run (all_weaker run (λ e own. same_number e.place n.place own) answered.own)
+      ∙ ap (λ (ps : List (State × Noted)). ps ++ run_at n.place (stated (state old) run))
+      (run_at_others n.place opening old (all_weaker old (λ e less. ne_eqb e.entry.place n.place (λ same. omega (arith, less, same))) old_below))
+      ∙ run_at_own n.place (state old) run (all_weaker run (λ e own. eq-eqb e.entry.place n.place own) answered.own)
 
   statements_more : statements (done ++ One n ∷ []) ≡ statements done ++ n ∷ []
   statements_more = flat_map-append _ done (One n ∷ [])
@@ -84,34 +75,34 @@ module _ (old run : List Entry) (done : List Step) (n : Numbered) (follows : Fol
       let P : List Numbered → Type 0 = λ ns. AllByRecursion (λ m. IsRun m (run_of m.place (old ++ run))) ns in
       subst P (sym statements_more)
       (all_append _ (statements done) (n ∷ [])
-      (all_both (statements done) (λ m less right. let R : List (State × Entry) → Type 0 = λ ps. IsRun m ps in subst R (sym (run_before m.place less)) right) below follows.runs)
-      ((let R : List (State × Entry) → Type 0 = λ ps. IsRun n ps in subst R (sym run_now) answered.right), tt))
+      (all_both (statements done) (λ m less right. let R : List (State × Noted) → Type 0 = λ ps. IsRun m ps in subst R (sym (run_before m.place less)) right) below follows.runs)
+      ((let R : List (State × Noted) → Type 0 = λ ps. IsRun n ps in subst R (sym run_now) answered.right), tt))
 
   places_more : places (statements (done ++ One n ∷ [])) ≡ places (statements done) ++ n.place ∷ []
   places_more = ap places statements_more ∙ map-append _ (statements done) (n ∷ [])
 
-  no_others_more : AllByRecursion (λ e. IsOneOf (places (statements (done ++ One n ∷ []))) e.place) (old ++ run)
+  no_others_more : AllByRecursion (λ e. IsOneOf (places (statements (done ++ One n ∷ []))) e.entry.place) (old ++ run)
   no_others_more =
-      let P : List ℕ → Type 0 = λ ps. AllByRecursion (λ e. IsOneOf ps e.place) (old ++ run) in
+      let P : List ℕ → Type 0 = λ ps. AllByRecursion (λ e. IsOneOf ps e.entry.place) (old ++ run) in
       subst P (sym places_more)
       (all_append _ old run
-      (all_weaker old (λ e h. one_of_left e.place (places (statements done)) (n.place ∷ []) h) follows.no_others)
-      (all_weaker run (λ e own. one_of_right e.place (places (statements done)) (n.place ∷ []) (inl (sym own))) answered.own))
+      (all_weaker old (λ e h. one_of_left e.entry.place (places (statements done)) (n.place ∷ []) h) follows.no_others)
+      (all_weaker run (λ e own. one_of_right e.entry.place (places (statements done)) (n.place ∷ []) (inl (sym own))) answered.own))
 
   share_more : (p q : ℕ) (x y : List Step) → ShareBlock x p q → ShareBlock (x ++ y) p q
   share_more p q [] y h = absurd h
   share_more p q (step ∷ x) y (inl h) = inl h
   share_more p q (step ∷ x) y (inr h) = inr (share_more p q x y h)
 
-  may_follow_more : (e f : Entry) → MayFollow done e f → MayFollow (done ++ One n ∷ []) e f
+  may_follow_more : (e f : Noted) → MayFollow done e f → MayFollow (done ++ One n ∷ []) e f
   may_follow_more e f (inl h) = inl h
-  may_follow_more e f (inr h) = inr (share_more e.place f.place done (One n ∷ []) h.0, h.1)
+  may_follow_more e f (inr h) = inr (share_more e.entry.place f.entry.place done (One n ∷ []) h.0, h.1)
 
-  run_in_order : (xs : List Entry) → AllByRecursion (λ e. e.place ≡ n.place) xs → IsInOrder (done ++ One n ∷ []) xs
+  run_in_order : (xs : List Noted) → AllByRecursion (λ e. e.entry.place ≡ n.place) xs → IsInOrder (done ++ One n ∷ []) xs
   run_in_order [] own = tt
   run_in_order (e ∷ es) own = (all_weaker es (λ f h. inl (omega (arith, own.0, h))) own.1, run_in_order es own.1)
 
-  in_order_more : (xs : List Entry) → AllByRecursion (λ e. e.place < n.place) xs → IsInOrder done xs → IsInOrder (done ++ One n ∷ []) (xs ++ run)
+  in_order_more : (xs : List Noted) → AllByRecursion (λ e. e.entry.place < n.place) xs → IsInOrder done xs → IsInOrder (done ++ One n ∷ []) (xs ++ run)
   in_order_more [] less order = run_in_order run answered.own
   in_order_more (e ∷ es) less order = (
     all_append _ es run (all_weaker es (λ f h. may_follow_more e f h) order.0) (all_weaker run (λ f own. inl (omega (arith, less.0, own))) answered.own),
@@ -124,15 +115,15 @@ module _ (old run : List Entry) (done : List Step) (n : Numbered) (follows : Fol
   text_before : (ms : List Numbered) → AllByRecursion (λ m. m.place < n.place) ms → flat_map (statement_text (old ++ run)) ms ≡ flat_map (statement_text old) ms
   text_before [] less = refl
   text_before (m ∷ ms) less =
-      ap (λ (ps : List (State × Entry)). run_text m.place ps ++ flat_map (statement_text (old ++ run)) ms) (run_before m.place less.0)
+      ap (λ (ps : List (State × Noted)). run_text m ps ++ flat_map (statement_text (old ++ run)) ms) (run_before m.place less.0)
       ∙ ap (λ (front : List ℕ). statement_text old m ++ front) (text_before ms less.1)
 
-  pub text_more : text (old ++ run) (done ++ One n ∷ []) ≡ text old done ++ run_text n.place (stated (state old) run)
+  pub text_more : text (old ++ run) (done ++ One n ∷ []) ≡ text old done ++ run_text n (stated (state old) run)
   text_more =
       ap (λ (ns : List Numbered). flat_map (statement_text (old ++ run)) ns) statements_more
       ∙ flat_map-append (statement_text (old ++ run)) (statements done) (n ∷ [])
       ∙ ap (λ (front : List ℕ). front ++ flat_map (statement_text (old ++ run)) (n ∷ [])) (text_before (statements done) below)
-      ∙ ap (λ (back : List ℕ). text old done ++ back) (append-nil _ ∙ ap (run_text n.place) run_now)
+      ∙ ap (λ (back : List ℕ). text old done ++ back) (append-nil _ ∙ ap (run_text n) run_now)
 
   -- what the statements before were answered stays
   pub text_kept : text (old ++ run) done ≡ text old done

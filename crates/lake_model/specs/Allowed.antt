@@ -1,18 +1,22 @@
 -- Which entry may stand in a state, whatever statement it answers.
-use Rattle.std.specs.Prelude.{◌≡◌, ℕ, ◌+◌, true, false, List, [], ◌∷◌, ◌++◌, IsNone, IsSomeAnd}
-use Rattle.std.specs.List.{AllByRecursion}
+use Rattle.std.specs.Prelude.{◌≡◌, ◌≢◌, ℕ, ◌+◌, ◌==◌, ◌<◌, ◌≤◌, Bool, true, false, ◌&&◌, ◌||◌, not, nat_le, List, [], ◌∷◌, ◌++◌, drop, Some, None, IsNone, IsSomeAnd, MatchBool}
+use Rattle.std.specs.List.{AllByRecursion, list_all, list_any}
+use Rattle.lake_values.specs.declared.names.Name.{Name}
 use Rattle.lake_model.specs.declared.entries.Change.{Change}
-use Rattle.lake_model.specs.declared.entries.Entry.{Entry}
 use Rattle.lake_model.specs.declared.entries.Fact.{Fact}
 use Rattle.lake_model.specs.declared.entries.Fact.TheVariants.{Created, Began, Ran, Committed, Conflict, Ended, RolledBack, Refused, Failed, Compacted, Checkpointed, Collected}
+use Rattle.lake_model.specs.declared.entries.Mark.{Mark}
 use Rattle.lake_model.specs.declared.replies.Refusal.{Refusal}
 use Rattle.lake_model.specs.declared.replies.Refusal.TheVariants.{InTransaction, NoTransaction, TableExists}
 use Rattle.lake_model.specs.declared.replies.Reply.{Reply}
 use Rattle.lake_model.specs.declared.replies.Reply.TheVariants.{Rows}
-use Rattle.lake_model.specs.Changes.{no_change, is_unchanged}
+use Rattle.lake_model.specs.Changes.{no_change, is_unchanged, units_of}
+use Rattle.lake_model.specs.Compactions.{due, marks_in}
+use Rattle.lake_model.specs.Conflicts.{first_conflict}
 use Rattle.lake_model.specs.Listing.{SameBag}
-use Rattle.lake_model.specs.Versions.{Version, has_table, all_rows}
-use Rattle.lake_model.specs.State.{State, Transaction, opening, last, newest, transaction, view, is_inside, after}
+use Rattle.lake_model.specs.Names.{holds_rows, is_checkpoint, is_among, is_ascending}
+use Rattle.lake_model.specs.Versions.{Tables, whole_table, has_table, all_rows}
+use Rattle.lake_model.specs.State.{State, Noted, Transaction, opening, last, newest, last_names, version_at, transaction, view, is_inside, after}
 
 -- a query changes nothing
 abbrev pub ChangesByReply : Reply → Change → Type 0
@@ -24,37 +28,84 @@ abbrev pub IsPartOf : {X : Type 0} → List X → List X → Type 0
 IsPartOf {X} xs ys = (rest : List X) × SameBag (xs ++ rest) ys
 
 -- a statement removes rows that its session sees, and adds rows as the transaction's next part
-abbrev pub IsOwnChange : Version → Reply → Change → Transaction → Type 0
+abbrev pub IsOwnChange : Tables → Reply → Change → Transaction → Type 0
 IsOwnChange seen reply change t = IsPartOf change.removed (all_rows seen) × AllByRecursion (λ added. added.part ≡ t.parts + 1) change.added × ChangesByReply reply change
+
+-- a blob of the transaction that no version has yet
+abbrev pub is_new_name : State → ℕ → Name → Bool
+is_new_name st number name = holds_rows name && (name.txn == number) && not (list_any (is_among name) st.names)
+
+-- a commit of this transaction may add these names and drop those
+abbrev pub can_rename : State → ℕ → List Name → List Name → Bool
+can_rename st number added dropped =
+    list_all (is_new_name st number) added && is_ascending added && list_all (λ n. is_among n (last_names st)) dropped && is_ascending dropped
+
+-- the transaction's change may become the next version
+abbrev pub MayCommit : State → ℕ → List Name → List Name → Transaction → Type 0
+MayCommit st seq added dropped t =
+    (is_unchanged t.pending ≡ false) × (first_conflict st t.snapshot (units_of t.pending) ≡ None) × (seq ≡ last st + 1) × (can_rename st t.number added dropped ≡ true)
+
+-- what a transaction has changed conflicts with this commit; one without a change, as a compaction's, with any that
+-- came after its snapshot
+abbrev pub MayConflict : State → ℕ → Transaction → Type 0
+MayConflict st seq t = MatchBool (is_unchanged t.pending) ((t.snapshot < seq) × (seq ≤ last st)) (first_conflict st t.snapshot (units_of t.pending) ≡ Some seq)
+
+-- the transaction was opened for one statement, which changed nothing
+abbrev pub is_single : Transaction → Bool
+is_single t = not t.explicit && is_unchanged t.pending
+
+-- the cells are those of the table that are due at the snapshot, and the marks those of their rows there
+abbrev pub MayCompact : State → List ℕ → List ℕ → List Mark → ℕ → List Name → List Name → Transaction → Type 0
+MayCompact st table cells marks seq added dropped t =
+    (is_single t ≡ true) × (cells ≡ due table (version_at st t.snapshot)) × (cells ≢ [])
+    × (marks ≡ marks_in table cells (version_at st t.snapshot).tables)
+    × (first_conflict st t.snapshot (whole_table table ∷ []) ≡ None) × (seq ≡ last st + 1) × (can_rename st t.number added dropped ≡ true)
+
+abbrev pub MayCheckpoint : State → List ℕ → ℕ → Name → Transaction → Type 0
+MayCheckpoint st table at name t =
+    (t.explicit ≡ false) × (at ≡ t.snapshot) × (has_table table (version_at st at).tables ≡ true) × (is_checkpoint name && (name.txn == t.number) ≡ true)
+
+-- the transaction is open, or its number hasn't been given yet
+abbrev pub is_awaited : State → ℕ → Bool
+is_awaited st number = not (nat_le number st.last_number) || list_any (λ o. o.1.number == number) st.running
+
+-- a version from the floor on has the name, or its transaction is awaited
+abbrev pub is_kept : State → ℕ → Name → Bool
+is_kept st floor name = list_any (is_among name) (drop floor st.names) || is_awaited st name.txn
+
+-- the floor doesn't fall, and no open transaction has a snapshot below it
+abbrev pub MayCollect : State → List Name → ℕ → Type 0
+MayCollect st names floor =
+    (st.floor ≤ floor) × (floor ≤ last st) × AllByRecursion (λ o. floor ≤ o.1.snapshot) st.running
+    × (is_ascending names ≡ true) × (list_any (is_kept st floor) names ≡ false)
 
 abbrev pub IsAllowedRefusal : State → ℕ → Refusal → Type 0
 IsAllowedRefusal st session InTransaction = is_inside st session ≡ true
 IsAllowedRefusal st session NoTransaction = IsNone (transaction st session)
-IsAllowedRefusal st session (TableExists table) = (has_table table (newest st) ≡ true) × IsNone (transaction st session)
+IsAllowedRefusal st session (TableExists table) = (has_table table (newest st).tables ≡ true) × IsNone (transaction st session)
 IsAllowedRefusal st session cause = Unit {0}
 
--- where no statement makes an entry yet, it is allowed nowhere; a commit names no blobs yet
 abbrev pub IsAllowedFact : State → ℕ → Fact → Type 0
-IsAllowedFact st session (Created table schema seq) = IsNone (transaction st session) × (has_table table (newest st) ≡ false) × (seq ≡ last st + 1)
+IsAllowedFact st session (Created table schema seq) = IsNone (transaction st session) × (has_table table (newest st).tables ≡ false) × (seq ≡ last st + 1)
 IsAllowedFact st session (Began explicit txn snapshot) = IsNone (transaction st session) × (txn ≡ st.last_number + 1) × (snapshot ≡ last st)
 IsAllowedFact st session (Ran reply change) = IsSomeAnd (transaction st session) (IsOwnChange (view st session) reply change)
-IsAllowedFact st session (Committed seq added dropped) = IsSomeAnd (transaction st session) (λ t. is_unchanged t.pending ≡ false) × (seq ≡ last st + 1) × (added ≡ []) × (dropped ≡ [])
-IsAllowedFact st session (Conflict seq) = ⊥
+IsAllowedFact st session (Committed seq added dropped) = IsSomeAnd (transaction st session) (MayCommit st seq added dropped)
+IsAllowedFact st session (Conflict seq) = IsSomeAnd (transaction st session) (MayConflict st seq)
 IsAllowedFact st session Ended = IsSomeAnd (transaction st session) (λ t. is_unchanged t.pending ≡ true)
-IsAllowedFact st session RolledBack = ⊥
+IsAllowedFact st session RolledBack = is_inside st session ≡ true
 IsAllowedFact st session (Refused cause) = IsAllowedRefusal st session cause
-IsAllowedFact st session (Failed cause) = ⊥
-IsAllowedFact st session (Compacted table cells marks seq added dropped) = ⊥
-IsAllowedFact st session (Checkpointed table at name) = ⊥
-IsAllowedFact st session (Collected names floor) = ⊥
+IsAllowedFact st session (Failed cause) = Unit {0}
+IsAllowedFact st session (Compacted table cells marks seq added dropped) = IsSomeAnd (transaction st session) (MayCompact st table cells marks seq added dropped)
+IsAllowedFact st session (Checkpointed table at name) = IsSomeAnd (transaction st session) (MayCheckpoint st table at name)
+IsAllowedFact st session (Collected names floor) = IsNone (transaction st session) × MayCollect st names floor
 
-abbrev pub IsAllowed : State → Entry → Type 0
-IsAllowed st e = IsAllowedFact st e.session e.fact
+abbrev pub IsAllowed : State → Noted → Type 0
+IsAllowed st e = IsAllowedFact st e.entry.session e.entry.fact
 
-abbrev pub IsLegalFrom : State → List Entry → Type 0
+abbrev pub IsLegalFrom : State → List Noted → Type 0
 IsLegalFrom st [] = Unit {0}
 IsLegalFrom st (e ∷ es) = IsAllowed st e × IsLegalFrom (after st e) es
 
 -- each entry is allowed in the state of the entries before it
-abbrev pub IsLegal : List Entry → Type 0
+abbrev pub IsLegal : List Noted → Type 0
 IsLegal entries = IsLegalFrom opening entries

@@ -1,17 +1,16 @@
 -- When a chronicle follows a script: each statement stands in it once, in its session's order, rightly answered.
-use Rattle.std.specs.Prelude.{◌≡◌, ◌≢◌, ℕ, ◌≤◌, ◌==◌, ◌⊎◌, Bool, true, false, ◌||◌, List, [], ◌∷◌, map, filter}
+use Rattle.std.specs.Prelude.{◌≡◌, ◌≢◌, ℕ, ◌≤◌, ◌==◌, ◌⊎◌, Bool, true, false, ◌||◌, ◌&&◌, List, [], ◌∷◌, map, filter, if◌then◌else◌, MatchBool}
 use Rattle.std.specs.List.{AllByRecursion, flat_map}
-use Rattle.lake_model.specs.declared.entries.Entry.{Entry}
 use Rattle.lake_model.specs.declared.entries.Fact.{Fact}
 use Rattle.lake_model.specs.declared.entries.Fact.TheVariants as fact
 use Rattle.lake_model.specs.declared.scripts.Numbered.{Numbered}
 use Rattle.lake_model.specs.declared.scripts.Step.{Step}
 use Rattle.lake_model.specs.declared.scripts.Step.TheVariants.{One, Parallel}
 use Rattle.lake_model.specs.declared.statements.Statement.{Statement}
-use Rattle.lake_model.specs.declared.statements.Statement.TheVariants.{Create, Insert, Select, Update, Delete}
-use Rattle.lake_model.specs.State.{State, opening, stated}
+use Rattle.lake_model.specs.declared.statements.Statement.TheVariants.{Create, Begin, Commit, RollBack, Insert, Select, Update, Delete, Compact, Checkpoint, Collect}
+use Rattle.lake_model.specs.State.{State, Noted, opening, is_inside, stated}
 use Rattle.lake_model.specs.Allowed.{IsLegalFrom}
-use Rattle.lake_model.specs.Answers.{IsRight}
+use Rattle.lake_model.specs.Answers.{IsRight, is_commit}
 
 -- the kinds of entries
 pub data EntryKind : Type 0 where
@@ -47,34 +46,75 @@ abbrev pub IsOneOf : {X : Type 0} → List X → X → Type 0
 IsOneOf [] x = ⊥
 IsOneOf (y ∷ ys) x = (y ≡ x) ⊎ IsOneOf ys x
 
--- the entries of a statement that opens a transaction for itself alone
-abbrev pub alone_rows : List (List EntryKind)
-alone_rows =
+-- where a session stands before a statement: inside a transaction that BEGIN opened, or outside
+pub data Standing : Type 0 where
+  inside : Standing
+  outside : Standing
+
+abbrev pub standing : State → ℕ → Standing
+standing st session = if is_inside st session then inside else outside
+
+abbrev pub one_entry : List EntryKind → List (List EntryKind)
+one_entry kinds = map (λ k. k ∷ []) kinds
+
+-- the rows of entries of a statement that reads or changes rows
+abbrev pub row_rows : Standing → List (List EntryKind)
+row_rows inside = one_entry (ran ∷ refused ∷ failed ∷ [])
+row_rows outside =
     (began ∷ refused ∷ []) ∷ (began ∷ failed ∷ []) ∷
     (began ∷ ran ∷ ended ∷ []) ∷ (began ∷ ran ∷ committed ∷ []) ∷
     (began ∷ ran ∷ conflict ∷ []) ∷ (began ∷ ran ∷ failed ∷ []) ∷ []
 
+-- the rows of entries of a statement that compacts or checkpoints, where it ends by one of these
+abbrev pub upkeep_rows : List EntryKind → Standing → List (List EntryKind)
+upkeep_rows ends inside = one_entry (refused ∷ [])
+upkeep_rows ends outside = map (λ k. began ∷ k ∷ []) ends
+
 -- the rows of entries that a statement may have
-abbrev pub entry_rows : Statement → List (List EntryKind)
-entry_rows (Create table columns distribution) = (created ∷ []) ∷ (refused ∷ []) ∷ []
-entry_rows (Insert table rows) = alone_rows
-entry_rows (Select q) = alone_rows
-entry_rows (Update table sets filter) = alone_rows
-entry_rows (Delete table filter) = alone_rows
-entry_rows x = []
+abbrev pub entry_rows : Standing → Statement → List (List EntryKind)
+entry_rows standing (Create table columns distribution) = one_entry (created ∷ refused ∷ [])
+entry_rows standing Begin = one_entry (began ∷ refused ∷ [])
+entry_rows standing Commit = one_entry (ended ∷ committed ∷ conflict ∷ failed ∷ refused ∷ [])
+entry_rows standing RollBack = one_entry (rolled_back ∷ refused ∷ [])
+entry_rows standing (Insert table rows) = row_rows standing
+entry_rows standing (Select q) = row_rows standing
+entry_rows standing (Update table sets filter) = row_rows standing
+entry_rows standing (Delete table filter) = row_rows standing
+entry_rows standing (Compact table) = upkeep_rows (refused ∷ failed ∷ ended ∷ conflict ∷ compacted ∷ []) standing
+entry_rows standing (Checkpoint table) = upkeep_rows (refused ∷ failed ∷ checkpointed ∷ []) standing
+entry_rows standing (Collect retain) = one_entry (collected ∷ failed ∷ refused ∷ [])
 
 abbrev pub is_ran : Fact → Bool
 is_ran (fact.Ran reply change) = true
 is_ran f = false
 
--- the entries are the session's, and each answers the statement in the state before it
-abbrev pub AnswerFrom : Numbered → Bool → List (State × Entry) → Type 0
+abbrev pub is_failed : Fact → Bool
+is_failed (fact.Failed cause) = true
+is_failed f = false
+
+-- an entry that failed inside an explicit transaction ends it exactly where its statement is COMMIT
+abbrev pub EndsRightly : State → Statement → Noted → Type 0
+EndsRightly st x e = MatchBool (is_failed e.entry.fact && is_inside st e.entry.session) (e.ends ≡ is_commit x) (Unit {0})
+
+-- the entry is the session's, and answers the statement in the state before it
+pub record IsAnswer (n : Numbered) (before : Bool) (st : State) (e : Noted) : Type 0 where
+  pub session : e.entry.session ≡ n.session
+  pub right : IsRight st e.entry.session before n.statement e.entry.fact
+  pub ends : EndsRightly st n.statement e
+
+-- each entry answers the statement
+abbrev pub AnswerFrom : Numbered → Bool → List (State × Noted) → Type 0
 AnswerFrom n before [] = Unit {0}
-AnswerFrom n before (p ∷ ps) = (p.1.session ≡ n.session) × IsRight p.0 p.1.session before n.statement p.1.fact × AnswerFrom n (before || is_ran p.1.fact) ps
+AnswerFrom n before (p ∷ ps) = IsAnswer n before p.0 p.1 × AnswerFrom n (before || is_ran p.1.entry.fact) ps
+
+-- where the session stands before the first of its entries
+abbrev pub standing_before : ℕ → List (State × Noted) → Standing
+standing_before session [] = outside
+standing_before session (p ∷ ps) = standing p.0 session
 
 -- the entries of a statement, each with the state before it
-pub record IsRun (n : Numbered) (run : List (State × Entry)) : Type 0 where
-  pub row : IsOneOf (entry_rows n.statement) (map (λ p. kind_of p.1.fact) run)
+pub record IsRun (n : Numbered) (run : List (State × Noted)) : Type 0 where
+  pub row : IsOneOf (entry_rows (standing_before n.session run) n.statement) (map (λ p. kind_of p.1.entry.fact) run)
   pub answers : AnswerFrom n false run
 
 abbrev pub statements_of : Step → List Numbered
@@ -85,11 +125,11 @@ abbrev pub statements : List Step → List Numbered
 statements x = flat_map statements_of x
 
 -- the entries at a place, each with the state before it
-abbrev pub run_at : ℕ → List (State × Entry) → List (State × Entry)
-run_at place entries = filter (λ p. p.1.place == place) entries
+abbrev pub run_at : ℕ → List (State × Noted) → List (State × Noted)
+run_at place entries = filter (λ p. p.1.entry.place == place) entries
 
 -- the entries at a place of a chronicle, each with the state before it
-abbrev pub run_of : ℕ → List Entry → List (State × Entry)
+abbrev pub run_of : ℕ → List Noted → List (State × Noted)
 run_of place entries = run_at place (stated opening entries)
 
 abbrev pub places : List Numbered → List ℕ
@@ -101,22 +141,22 @@ ShareBlock [] p q = ⊥
 ShareBlock (step ∷ x) p q = (IsOneOf (places (statements_of step)) p × IsOneOf (places (statements_of step)) q) ⊎ ShareBlock x p q
 
 -- f may stand behind e: its place isn't before, or another session of the same block made it
-abbrev pub MayFollow : List Step → Entry → Entry → Type 0
-MayFollow x e f = (e.place ≤ f.place) ⊎ (ShareBlock x e.place f.place × (e.session ≢ f.session))
+abbrev pub MayFollow : List Step → Noted → Noted → Type 0
+MayFollow x e f = (e.entry.place ≤ f.entry.place) ⊎ (ShareBlock x e.entry.place f.entry.place × (e.entry.session ≢ f.entry.session))
 
-abbrev pub IsInOrder : List Step → List Entry → Type 0
+abbrev pub IsInOrder : List Step → List Noted → Type 0
 IsInOrder x [] = Unit {0}
 IsInOrder x (e ∷ es) = AllByRecursion (MayFollow x e) es × IsInOrder x es
 
 -- each statement's entries are one row of its table, rightly answered; no other entry stands there; and the
 -- statements stand in order
-pub record Follows (entries : List Entry) (x : List Step) : Type 0 where
+pub record Follows (entries : List Noted) (x : List Step) : Type 0 where
   pub runs : AllByRecursion (λ n. IsRun n (run_of n.place entries)) (statements x)
-  pub no_others : AllByRecursion (λ e. IsOneOf (places (statements x)) e.place) entries
+  pub no_others : AllByRecursion (λ e. IsOneOf (places (statements x)) e.entry.place) entries
   pub order : IsInOrder x entries
 
 -- what a statement adds behind the entries that lead to st: its own entries, allowed there and rightly answered
-pub record IsAnswered (st : State) (n : Numbered) (run : List Entry) : Type 0 where
+pub record IsAnswered (st : State) (n : Numbered) (run : List Noted) : Type 0 where
   pub legal : IsLegalFrom st run
-  pub own : AllByRecursion (λ e. e.place ≡ n.place) run
+  pub own : AllByRecursion (λ e. e.entry.place ≡ n.place) run
   pub right : IsRun n (stated st run)

@@ -10,11 +10,15 @@ pub mod Evaluation
 pub mod Groups
 pub mod Query
 pub mod Changes
+pub mod Compactions
+pub mod Names
 pub mod Writing
 pub mod State
+pub mod Conflicts
 pub mod Refusals
 pub mod Allowed
 pub mod Answers
 pub mod Following
 pub mod Replies
 pub mod Text
+pub mod Laws

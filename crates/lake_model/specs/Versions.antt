@@ -1,10 +1,11 @@
 -- What a version of the lake holds.
 use Rattle.std.specs.Prelude.{ℕ, Bool, List, [], Option, find, is_some, map, nat_eq}
-use Rattle.std.specs.List.{flat_map}
+use Rattle.std.specs.List.{flat_map, list_any}
 use Rattle.std.specs.Option.{option_map_or}
 use Rattle.std.specs.Cmp.Lexicographic.{pointwise}
 use Rattle.lake_values.specs.Schemas.{TableColumns}
 use Rattle.lake_values.specs.declared.values.Value.{Value}
+use Rattle.lake_model.specs.declared.entries.Mark.{Mark}
 use Rattle.lake_model.specs.declared.entries.MarkedRow.{MarkedRow}
 
 -- a table as a version has it; the mark of each row says which commit and part added it, and its cell
@@ -13,29 +14,50 @@ pub record Table : Type 0 where
   pub schema : TableColumns
   pub rows : List MarkedRow
 
--- the tables of a version, in the order in which they were created
-abbrev pub Version : Type 0
-Version = List Table
+-- tables in the order in which they were created
+abbrev pub Tables : Type 0
+Tables = List Table
+
+-- what two transactions that run at once may not both write: so far a whole table
+pub data ConflictUnit : Type 0 where
+  whole_table : List ℕ → ConflictUnit
+
+-- a version: its tables, its worn marks, which still have a row and have lost one, and what the commit that made it
+-- wrote
+pub record Version : Type 0 where
+  pub tables : Tables
+  pub worn : List Mark
+  pub wrote : List ConflictUnit
+
+abbrev pub empty_version : Version
+empty_version = record { tables = []; worn = []; wrote = [] }
 
 -- the same bytes
 abbrev pub same_text : List ℕ → List ℕ → Bool
 same_text = pointwise nat_eq
 
--- the table of this name, if the version has it
-abbrev pub table_of : List ℕ → Version → Option Table
-table_of name version = find (λ t. same_text t.name name) version
+abbrev pub same_unit : ConflictUnit → ConflictUnit → Bool
+same_unit (whole_table s) (whole_table t) = same_text s t
 
-abbrev pub has_table : List ℕ → Version → Bool
-has_table name version = is_some (table_of name version)
+-- one of the units is among the others
+abbrev pub share_unit : List ConflictUnit → List ConflictUnit → Bool
+share_unit us vs = list_any (λ u. list_any (same_unit u) vs) us
+
+-- the table of this name, if it is there
+abbrev pub table_of : List ℕ → Tables → Option Table
+table_of name tables = find (λ t. same_text t.name name) tables
+
+abbrev pub has_table : List ℕ → Tables → Bool
+has_table name tables = is_some (table_of name tables)
 
 -- the rows of the table of this name, with their marks
-abbrev pub marked_rows_of : List ℕ → Version → List MarkedRow
-marked_rows_of name version = option_map_or (λ t. t.rows) (table_of name version) []
+abbrev pub marked_rows_of : List ℕ → Tables → List MarkedRow
+marked_rows_of name tables = option_map_or (λ t. t.rows) (table_of name tables) []
 
 -- the rows of each table, without their marks
-abbrev pub rows_of : Version → List ℕ → List (List Value)
-rows_of version name = map (λ m. m.row) (marked_rows_of name version)
+abbrev pub rows_of : Tables → List ℕ → List (List Value)
+rows_of tables name = map (λ m. m.row) (marked_rows_of name tables)
 
 -- the rows of all tables
-abbrev pub all_rows : Version → List MarkedRow
-all_rows version = flat_map (λ t. t.rows) version
+abbrev pub all_rows : Tables → List MarkedRow
+all_rows tables = flat_map (λ t. t.rows) tables

@@ -19,7 +19,7 @@ use Rattle.lake_model.specs.Changes.{no_change, change_of}
 use Rattle.lake_model.specs.Evaluation.{meets, all_fit, evaluated}
 use Rattle.lake_model.specs.Query.{plain}
 use Rattle.lake_model.specs.Scopes.{TableSchemas}
-use Rattle.lake_model.specs.Versions.{Version, marked_rows_of, rows_of}
+use Rattle.lake_model.specs.Versions.{Tables, marked_rows_of, rows_of}
 
 -- what a statement answers, and what it changes
 abbrev pub Effect : Type 0
@@ -61,27 +61,27 @@ queried (Err refusal) = Err refusal
 
 -- An INSERT adds its rows. A DELETE removes the rows that it matches. An UPDATE removes them and adds each as it is
 -- after its update, also where it stays the same. Each counts its rows.
-abbrev pub effect_of : Bound → Version → ℕ → Result Effect Refusal
-effect_of (Select q) version part = queried (plain q (rows_of version))
-effect_of (Insert table rows column) version part = Ok (wrote Inserted (length rows), change_of table part [] rows)
-effect_of (Update table guards computed items column) version part =
-    let rows = marked_rows_of table version in
+abbrev pub effect_of : Bound → Tables → ℕ → Result Effect Refusal
+effect_of (Select q) tables part = queried (plain q (rows_of tables))
+effect_of (Insert table rows column) tables part = Ok (wrote Inserted (length rows), change_of table part [] rows)
+effect_of (Update table guards computed items column) tables part =
+    let rows = marked_rows_of table tables in
     let old = matched guards computed rows in
     if_fits (conditions_fit guards computed rows && values_fit items old) (wrote Updated (length old), change_of table part old (updated items old))
-effect_of (Delete table guards computed) version part =
-    let rows = marked_rows_of table version in
+effect_of (Delete table guards computed) tables part =
+    let rows = marked_rows_of table tables in
     let old = matched guards computed rows in
     if_fits (conditions_fit guards computed rows) (wrote Deleted (length old), change_of table part old [])
-effect_of (Named table) version part = Ok (Ended, no_change)
+effect_of (Named table) tables part = Ok (Ended, no_change)
 
-abbrev pub schemas_of : Version → TableSchemas
-schemas_of version = map (λ t. (t.name, t.schema)) version
+abbrev pub schemas_of : Tables → TableSchemas
+schemas_of tables = map (λ t. (t.name, t.schema)) tables
 
-abbrev pub effect_if_bound : Result Bound Refusal → Version → ℕ → Result Effect Refusal
-effect_if_bound (Ok form) version part = effect_of form version part
-effect_if_bound (Err refusal) version part = Err refusal
+abbrev pub effect_if_bound : Result Bound Refusal → Tables → ℕ → Result Effect Refusal
+effect_if_bound (Ok form) tables part = effect_of form tables part
+effect_if_bound (Err refusal) tables part = Err refusal
 
--- what a statement does as this part of a transaction that sees this version: the refusals of binding stand before
+-- what a statement does as this part of a transaction that sees these tables: the refusals of binding stand before
 -- too many rows, and these before arithmetic
-abbrev pub result_over : Version → ℕ → Statement → Result Effect Refusal
-result_over version part x = effect_if_bound (bound x (schemas_of version)) version part
+abbrev pub result_over : Tables → ℕ → Statement → Result Effect Refusal
+result_over tables part x = effect_if_bound (bound x (schemas_of tables)) tables part

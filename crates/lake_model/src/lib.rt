@@ -21,7 +21,7 @@ pub use entries::{
     Added, AddedList, Cells16, Change, Chronicle, Entry, Fact, Mark, MarkedRow, MarkedRows, Marks,
 };
 pub use expressions::{Agg, ArithOp, CmpOp, Expr, Item, Items, Ref, Refs};
-pub use laws::same_bags_same_answer;
+pub use laws::{first_committer_wins, one_text, same_bags_same_answer, views_stay};
 pub use listing::{in_mark_order, in_row_order};
 pub use replies::{Failure, Refusal, Reply, Verb};
 pub use reply_texts::reply_text;

@@ -14,7 +14,7 @@ use Rattle.lake_model.specs.declared.replies.Reply.{Reply}
 use Rattle.lake_model.specs.Changes.{no_change, marked_cmp, without, marked, added_to, removed_from, changed_table, applied, addition}
 use Rattle.lake_model.specs.Listing.{ordered}
 use Rattle.lake_model.specs.Scopes.{TableSchemas}
-use Rattle.lake_model.specs.Versions.{Table, Version, same_text, table_of, has_table, marked_rows_of}
+use Rattle.lake_model.specs.Versions.{Table, Tables, same_text, table_of, has_table, marked_rows_of}
 use Rattle.lake_model.specs.Writing as writing
 use Rattle.lake_model.proofs.Removal.{without_matched, all_matched, removed_here, removed_elsewhere}
 use Rattle.lake_model.proofs.Texts.{same_text_is, same_text_self, same_text_sym}
@@ -29,13 +29,13 @@ use Rattle.lake_script.proofs.Places.{IsAt, first_found, first_mapped, first_pas
 nothing_here : (seq : ℕ) (t : Table) → changed_table seq no_change t ≡ t
 nothing_here seq t = ap (λ (rows : List MarkedRow). record t { rows = rows }) (append-nil t.rows)
 
-pub applied_nothing : (version : Version) → applied 0 no_change version ≡ version
+pub applied_nothing : (version : Tables) → applied 0 no_change version ≡ version
 applied_nothing [] = refl
 applied_nothing (t ∷ ts) = λ i. nothing_here 0 t i ∷ applied_nothing ts i
 
 -- a change leaves the names and schemas of the tables
 
-has_same : (seq : ℕ) (change : Change) (name : List ℕ) (version : Version) → has_table name (applied seq change version) ≡ has_table name version
+has_same : (seq : ℕ) (change : Change) (name : List ℕ) (version : Tables) → has_table name (applied seq change version) ≡ has_table name version
 has_same seq change name [] = refl
 has_same seq change name (t ∷ ts) =
     elim (same_text t.name name) as (λ b. is_some (cond b (Some (changed_table seq change t)) (table_of name (applied seq change ts))) ≡ is_some (cond b (Some t) (table_of name ts))) [
@@ -43,28 +43,28 @@ has_same seq change name (t ∷ ts) =
       | false ↦ has_same seq change name ts
     ]
 
-pub names_kept : (seq : ℕ) (change : Change) (version : Version) → HasOwnNames version → HasOwnNames (applied seq change version)
+pub names_kept : (seq : ℕ) (change : Change) (version : Tables) → HasOwnNames version → HasOwnNames (applied seq change version)
 names_kept seq change [] own = tt
 names_kept seq change (t ∷ ts) own = (has_same seq change t.name ts ∙ own.0, names_kept seq change ts own.1)
 
-pub schemas_kept : (seq : ℕ) (change : Change) (version : Version) → writing.schemas_of (applied seq change version) ≡ writing.schemas_of version
+pub schemas_kept : (seq : ℕ) (change : Change) (version : Tables) → writing.schemas_of (applied seq change version) ≡ writing.schemas_of version
 schemas_kept seq change [] = refl
 schemas_kept seq change (t ∷ ts) = ap (λ (ss : TableSchemas). (t.name, t.schema) ∷ ss) (schemas_kept seq change ts)
 
 -- a table that no table has the name of
 
-others_differ : (name : List ℕ) (t : Table) (ts : Version) → has_table name (t ∷ ts) ≡ false → (same_text t.name name ≡ false) × (has_table name ts ≡ false)
+others_differ : (name : List ℕ) (t : Table) (ts : Tables) → has_table name (t ∷ ts) ≡ false → (same_text t.name name ≡ false) × (has_table name ts ≡ false)
 others_differ name t ts none =
     elim (same_text t.name name) as (λ b. same_text t.name name ≡ b → is_some (cond b (Some t) (table_of name ts)) ≡ false → (same_text t.name name ≡ false) × (has_table name ts ≡ false)) [
       | true ↦ λ e h. absurd cc
       | false ↦ λ e h. (e, h)
     ] refl none
 
-none_more : (name : List ℕ) (ts : Version) (t : Table) → has_table name ts ≡ false → same_text t.name name ≡ false → has_table name (ts ++ t ∷ []) ≡ false
+none_more : (name : List ℕ) (ts : Tables) (t : Table) → has_table name ts ≡ false → same_text t.name name ≡ false → has_table name (ts ++ t ∷ []) ≡ false
 none_more name [] t none other = rw other refl
 none_more name (u ∷ us) t none other = let differ = others_differ name u us none in rw differ.0 (none_more name us t differ.1 other)
 
-pub names_more : (version : Version) (t : Table) → HasOwnNames version → has_table t.name version ≡ false → HasOwnNames (version ++ t ∷ [])
+pub names_more : (version : Tables) (t : Table) → HasOwnNames version → has_table t.name version ≡ false → HasOwnNames (version ++ t ∷ [])
 names_more [] t own none = (refl, tt)
 names_more (u ∷ us) t own none =
     let differ = others_differ t.name u us none in
@@ -80,8 +80,8 @@ other_table : (seq part : ℕ) (name : List ℕ) (removed : List MarkedRow) (add
     (t : Table) → same_text t.name name ≡ false → changed_table seq (record { removed = removed; added = addition name part added }) t ≡ t
 other_table seq part name removed added all t differ =
     let other : same_text name t.name ≡ false = same_text_sym name t.name ∙ differ in
-    let rows : without t.rows (removed_from t removed) ++ flat_map (added_to t seq) (addition name part added) ≡ t.rows ++ [] =
-    λ i. without t.rows (removed_elsewhere t name removed other all i) ++ nothing_added t seq part name added other i in
+    let rows : without marked_cmp t.rows (removed_from t removed) ++ flat_map (added_to t seq) (addition name part added) ≡ t.rows ++ [] =
+    λ i. without marked_cmp t.rows (removed_elsewhere t name removed other all i) ++ nothing_added t seq part name added other i in
     ap (λ (rows : List MarkedRow). record t { rows = rows }) (rows ∙ append-nil t.rows)
 
 -- and removes and adds rows of the table of its name
@@ -92,19 +92,19 @@ all_added t seq part name [] same = refl
 all_added t seq part name (row ∷ rows) same = rw same (sym (map-append (marked t.name t.schema seq part) _ []))
 
 own_table : (seq part : ℕ) (name : List ℕ) (removed : List MarkedRow) (added : List (List Value)) → AllByRecursion (λ m. m.mark.table ≡ name) removed →
-    (t : Table) (left more : List MarkedRow) → t.name ≡ name → without t.rows removed ≡ left →
+    (t : Table) (left more : List MarkedRow) → t.name ≡ name → without marked_cmp t.rows removed ≡ left →
     more ≡ map (marked t.name t.schema seq part) (flat_map (λ a. a.rows) (addition name part added)) →
     changed_table seq (record { removed = removed; added = addition name part added }) t ≡ record t { rows = left ++ more }
 own_table seq part name removed added all t left more named left_is more_are =
     let same : same_text name t.name ≡ true = ap (same_text name) named ∙ same_text_self name in
     let here : removed_from t removed ≡ removed = removed_here t removed (subst (λ (n : List ℕ). AllByRecursion (λ (m : MarkedRow). m.mark.table ≡ n) removed) (sym named) all) in
-    let gone : without t.rows (removed_from t removed) ≡ left = ap (without t.rows) here ∙ left_is in
+    let gone : without marked_cmp t.rows (removed_from t removed) ≡ left = ap (without marked_cmp t.rows) here ∙ left_is in
     let come : flat_map (added_to t seq) (addition name part added) ≡ more = all_added t seq part name added same ∙ sym more_are in
     λ i. record t { rows = gone i ++ come i }
 
 -- where the other tables stay, the version has other rows at the place alone
 
-others_stay : (f : Table → Table) (name : List ℕ) → ((t : Table) → same_text t.name name ≡ false → f t ≡ t) → (ts : Version) → has_table name ts ≡ false → map f ts ≡ ts
+others_stay : (f : Table → Table) (name : List ℕ) → ((t : Table) → same_text t.name name ≡ false → f t ≡ t) → (ts : Tables) → has_table name ts ≡ false → map f ts ≡ ts
 others_stay f name stay [] none = refl
 others_stay f name stay (t ∷ ts) none = let differ = others_differ name t ts none in λ i. stay t differ.0 i ∷ others_stay f name stay ts differ.1 i
 
@@ -146,7 +146,7 @@ module _ (xs : List KeptTable) (place : ℕ) (t : KeptTable) (name : List ℕ) (
   Adds added = (table : List ℕ) → map (marked_as table) more ≡ map (marked table t.schema seq 1) added
 
   applied_by : (removed : List MarkedRow) (added : List (List Value)) (rows : Table → List MarkedRow) (left : List MarkedRow) → AllByRecursion (λ m. m.mark.table ≡ name) removed →
-      without (map (marked_as t.name) t.rows.items) removed ≡ left → Adds (flat_map (λ a. a.rows) (addition name 1 added)) → left ++ map (marked_as t.name) more ≡ rows (seen t) →
+      without marked_cmp (map (marked_as t.name) t.rows.items) removed ≡ left → Adds (flat_map (λ a. a.rows) (addition name 1 added)) → left ++ map (marked_as t.name) more ≡ rows (seen t) →
       applied seq (record { removed = removed; added = addition name 1 added }) (map seen xs) ≡ changed_at rows place (map seen xs)
   applied_by removed added rows left all left_is adds rows_is =
       changed_there (changed_table seq (record { removed = removed; added = addition name 1 added })) rows name (other_table seq 1 name removed added all) xs place t own
@@ -162,8 +162,8 @@ module _ (xs : List KeptTable) (place : ℕ) (t : KeptTable) (name : List ℕ) (
       let here = map (marked_as t.name) t.rows.items in
       let there = marked_rows_of name (map seen xs) in
       let marks : AllByRecursion (λ m. m.mark.table ≡ name) there = subst (λ (ms : List MarkedRow). AllByRecursion (λ m. m.mark.table ≡ name) ms) (rows_there name xs place t found is) (marks_here name t.rows.items) in
-      let left : without here (ordered marked_cmp (writing.matched guards computed there)) ≡ filter (λ m. not (is_gone guards computed m.row)) here =
-      ap (λ (rows : List MarkedRow). without here (ordered marked_cmp (writing.matched guards computed rows))) rows_are
+      let left : without marked_cmp here (ordered marked_cmp (writing.matched guards computed there)) ≡ filter (λ m. not (is_gone guards computed m.row)) here =
+      ap (λ (rows : List MarkedRow). without marked_cmp here (ordered marked_cmp (writing.matched guards computed rows))) rows_are
       ∙ without_matched (writing.is_matched guards computed) here
       ∙ gone_matched guards computed here (ap (writing.conditions_fit guards computed) (sym rows_are) ∙ fit) in
       applied_by (ordered marked_cmp (writing.matched guards computed there)) added rows (filter (λ m. not (is_gone guards computed m.row)) here)

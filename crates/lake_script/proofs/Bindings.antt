@@ -21,7 +21,7 @@ use Rattle.lake_model.specs.Mentions as mention
 use Rattle.lake_model.specs.Query as query
 use Rattle.lake_model.specs.Scopes.{TableSchemas, schema_named}
 use Rattle.lake_model.specs.State.{State}
-use Rattle.lake_model.specs.Versions.{Version, same_text, rows_of}
+use Rattle.lake_model.specs.Versions.{Tables, same_text, rows_of}
 use Rattle.lake_model.specs.Writing as writing
 use Rattle.plain_query.specs.Databases.{IsReady}
 use Rattle.plain_query.proofs.Ready.{bound_ready}
@@ -103,7 +103,7 @@ query_plain true fits rows cause is = ap plain_cause (sym (err_same is))
 query_plain false false rows cause is = ap plain_cause (sym (err_same is))
 query_plain false true rows cause is = absurd cc
 
-effect_plain : (form : Bound) (version : Version) (part : ℕ) (cause : Refusal) → writing.effect_of form version part ≡ Err cause → plain_cause cause ≡ true
+effect_plain : (form : Bound) (version : Tables) (part : ℕ) (cause : Refusal) → writing.effect_of form version part ≡ Err cause → plain_cause cause ≡ true
 effect_plain (bound.Select q) version part cause is =
     let db = rows_of version in
     let rows = query.stage q db (query.last_stage q) in
@@ -113,11 +113,11 @@ effect_plain (bound.Update table guards computed items column) version part caus
 effect_plain (bound.Delete table guards computed) version part cause is = fits_plain _ _ cause is
 effect_plain (bound.Named table) version part cause is = absurd cc
 
-answered_plain : (judged : Option Refusal) (form : Bound) (version : Version) (part : ℕ) (cause : Refusal) → IsPlain judged → writing.effect_if_bound (answered judged form) version part ≡ Err cause → plain_cause cause ≡ true
+answered_plain : (judged : Option Refusal) (form : Bound) (version : Tables) (part : ℕ) (cause : Refusal) → IsPlain judged → writing.effect_if_bound (answered judged form) version part ≡ Err cause → plain_cause cause ≡ true
 answered_plain None form version part cause p is = effect_plain form version part cause is
 answered_plain (Some judged) form version part cause p is = ap plain_cause (sym (err_same is)) ∙ p
 
-pub result_plain : (version : Version) (part : ℕ) (x : Statement) (cause : Refusal) → writing.result_over version part x ≡ Err cause → plain_cause cause ≡ true
+pub result_plain : (version : Tables) (part : ℕ) (x : Statement) (cause : Refusal) → writing.result_over version part x ≡ Err cause → plain_cause cause ≡ true
 result_plain version part x cause is =
     answered_plain (refused (writing.schemas_of version) x) (bound_form (writing.schemas_of version) x) version part cause (binding_plain (writing.schemas_of version) x) is
 

@@ -3,19 +3,18 @@ use Rattle.std.proofs.Common.{◌≡◌, ℕ, ◌+◌, ◌≤◌, true, false, L
 use Rattle.std.specs.Prelude.{IsSome, position}
 use Rattle.lake_model.specs.declared.bound.Bound.{Bound}
 use Rattle.lake_model.specs.declared.entries.Change.{Change}
-use Rattle.lake_model.specs.declared.entries.Entry.{Entry}
 use Rattle.lake_model.specs.declared.entries.Fact.TheVariants as fact
 use Rattle.lake_model.specs.declared.replies.Refusal.{Refusal}
 use Rattle.lake_model.specs.declared.replies.Reply.{Reply}
 use Rattle.lake_model.specs.declared.scripts.Numbered.{Numbered}
-use Rattle.lake_model.specs.Answers.{runs_alone}
+use Rattle.lake_model.specs.Answers.{reads_rows}
 use Rattle.lake_model.specs.Binding.{IsBound}
 use Rattle.lake_model.specs.Changes.{is_unchanged, marked}
 use Rattle.lake_model.specs.Form.{is_form}
 use Rattle.lake_model.specs.Scopes.{TableSchemas}
-use Rattle.lake_model.specs.State.{newest, state}
+use Rattle.lake_model.specs.State.{Noted, newest, state}
 use Rattle.lake_model.specs.Text.{committed_reply}
-use Rattle.lake_model.specs.Versions.{Version, same_text}
+use Rattle.lake_model.specs.Versions.{Tables, same_text}
 use Rattle.lake_model.specs.Writing.{effect_of, schemas_of}
 use Rattle.sql_binder.specs.declared.faults.BindFault.{BindFault}
 use Rattle.sql_binder.specs.declared.faults.BindFault.TheVariants as bind_fault
@@ -45,33 +44,33 @@ pub is_there : (found : Option ℕ) (place : ℕ) → found ≡ Some place → I
 is_there None place is = absurd cc
 is_there (Some other) place is = refl
 
-module _ (entries : List Entry) (xs : List KeptTable) (schemas : TableSchemas) (last number : ℕ) (h : IsHome entries (map seen xs) schemas last number) (n : Numbered) (form : Bound) (reply : Reply) (change : Change)
-    (is_bound : IsBound n.statement (schemas_of (newest (state entries))) form) (effect : effect_of form (newest (state entries)) 1 ≡ Ok (reply, change)) (changed : is_unchanged change ≡ false) where
+module _ (entries : List Noted) (xs : List KeptTable) (schemas : TableSchemas) (last number : ℕ) (h : IsHome entries (map seen xs) schemas last number) (n : Numbered) (form : Bound) (reply : Reply) (change : Change)
+    (is_bound : IsBound n.statement (schemas_of (newest (state entries)).tables) form) (effect : effect_of form (newest (state entries)).tables 1 ≡ Ok (reply, change)) (changed : is_unchanged change ≡ false) where
   pub written : is_written form ≡ true
-  written = changed_written form (newest (state entries)) 1 reply change changed effect
+  written = changed_written form (newest (state entries)).tables 1 reply change changed effect
 
   pub place_there : (place : ℕ) × (position (λ t. same_text t.name (table_written form)) xs ≡ Some place)
   place_there =
-      let P : Version → Type 0 = λ version. IsBound n.statement (schemas_of version) form in
+      let P : Tables → Type 0 = λ version. IsBound n.statement (schemas_of version) form in
       table_there n.statement xs form (subst P h.tables_are is_bound) written
 
   pub guards_there : is_form n.statement ≡ true → HasGuards form
-  guards_there in_form = bound_guards n.statement (schemas_of (newest (state entries))) form in_form is_bound
+  guards_there in_form = bound_guards n.statement (schemas_of (newest (state entries)).tables) form in_form is_bound
 
   pub once : length change.added ≤ 1
-  once = added_once form (newest (state entries)) 1 reply change effect
+  once = added_once form (newest (state entries)).tables 1 reply change effect
 
-  pub commit_makes : (place : ℕ) (t : KeptTable) (more : List Kept) → n.session ≡ 1 → runs_alone n.statement ≡ true → position (λ t. same_text t.name (table_written form)) xs ≡ Some place → t ≡ get_or xs place t →
+  pub commit_makes : (place : ℕ) (t : KeptTable) (more : List Kept) → n.session ≡ 1 → reads_rows n.statement ≡ true → position (λ t. same_text t.name (table_written form)) xs ≡ Some place → t ≡ get_or xs place t →
       ((table : List ℕ) → map (marked_as table) more ≡ map (marked table t.schema (last + 1) 1) (rows_added change)) →
       Makes entries n (committed_reply (last + 1) (Some reply))
       (entry_of n (fact.Began false (number + 1) last) ∷ entry_of n (fact.Ran reply change) ∷ entry_of n (fact.Committed (last + 1) [] []) ∷ [])
       (changed_at (rows_after form more) place (map seen xs)) schemas (last + 1) (number + 1)
   commit_makes place t more first alone found is adds =
-      let over : effect_of form (map seen xs) 1 ≡ Ok (reply, change) = ap (λ (v : Version). effect_of form v 1) (sym h.tables_are) ∙ effect in
+      let over : effect_of form (map seen xs) 1 ≡ Ok (reply, change) = ap (λ (v : Tables). effect_of form v 1) (sym h.tables_are) ∙ effect in
       let after = applied_at form xs place t (last + 1) more reply change h.own_names found is written over adds in
-      let result = result_of_form (newest (state entries)) 1 n.statement form (Ok (reply, change)) is_bound effect in
-      let (part, parts, by) = own_result (newest (state entries)) 1 n.statement reply change result in
+      let result = result_of_form (newest (state entries)).tables 1 n.statement form (Ok (reply, change)) is_bound effect in
+      let (part, parts, by) = own_result (newest (state entries)).tables 1 n.statement reply change result in
       committed_makes entries (map seen xs) schemas last number h n reply change first alone result part parts by
-      (changed_at (rows_after form more) place (map seen xs)) (written_statement n.statement (schemas_of (newest (state entries))) form is_bound written) changed after
+      (changed_at (rows_after form more) place (map seen xs)) (written_statement n.statement (schemas_of (newest (state entries)).tables) form is_bound written) changed after
       (h.schemas_are ∙ sym (schemas_kept (last + 1) change (map seen xs)) ∙ ap schemas_of after)
       (subst HasOwnNames after (names_kept (last + 1) change (map seen xs) h.own_names))

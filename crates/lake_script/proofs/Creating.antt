@@ -41,25 +41,25 @@ module _ (table : List ℕ) (columns : List Column) (distribution : Option (List
       distinct_columns columns (neither (first ambiguous_name (in_columns columns)) _ twice.0).0
 
   module _ (st : State) (alone : st.running ≡ []) where
-    at : st ≡ at_home st.versions st.last_number
-    at = λ i. record { versions = st.versions; running = alone i; last_number = st.last_number }
+    at : st ≡ at_home st
+    at = λ i. record st { running = alone i }
 
-    unfolded : refusal st 1 (Create table columns distribution) ≡ option_or (existing_table table (newest st)) (refused [] (Create table columns distribution))
+    unfolded : refusal st 1 (Create table columns distribution) ≡ option_or (existing_table table (newest st).tables) (refused [] (Create table columns distribution))
     unfolded = ap (λ (s : State). refusal s 1 (Create table columns distribution)) at
 
-    pub refused_existing : has_table table (newest st) ≡ true → refusal st 1 (Create table columns distribution) ≡ Some (TableExists table)
+    pub refused_existing : has_table table (newest st).tables ≡ true → refusal st 1 (Create table columns distribution) ≡ Some (TableExists table)
     refused_existing there = unfolded ∙ rw there refl
 
-    pub refused_bound : has_table table (newest st) ≡ false → (cause : Refusal) → IsRefused (Create table columns distribution) [] cause → refusal st 1 (Create table columns distribution) ≡ Some cause
+    pub refused_bound : has_table table (newest st).tables ≡ false → (cause : Refusal) → IsRefused (Create table columns distribution) [] cause → refusal st 1 (Create table columns distribution) ≡ Some cause
     refused_bound absent cause is = unfolded ∙ rw absent (bound_some (refused [] (Create table columns distribution)) (bound_form [] (Create table columns distribution)) cause is)
 
-    pub not_refused : has_table table (newest st) ≡ false → (form : Bound) → IsBound (Create table columns distribution) [] form → refusal st 1 (Create table columns distribution) ≡ None
+    pub not_refused : has_table table (newest st).tables ≡ false → (form : Bound) → IsBound (Create table columns distribution) [] form → refusal st 1 (Create table columns distribution) ≡ None
     not_refused absent form is = unfolded ∙ rw absent (bound_none (refused [] (Create table columns distribution)) (bound_form [] (Create table columns distribution)) form is)
 
     -- what isn't refused is new, and has distinct columns
-    pub is_new : refusal st 1 (Create table columns distribution) ≡ None → (has_table table (newest st) ≡ false) × (refused [] (Create table columns distribution) ≡ None)
+    pub is_new : refusal st 1 (Create table columns distribution) ≡ None → (has_table table (newest st).tables ≡ false) × (refused [] (Create table columns distribution) ≡ None)
     is_new none =
-        elim (has_table table (newest st)) as (λ b. has_table table (newest st) ≡ b → (b ≡ false) × (refused [] (Create table columns distribution) ≡ None)) [
+        elim (has_table table (newest st).tables) as (λ b. has_table table (newest st).tables ≡ b → (b ≡ false) × (refused [] (Create table columns distribution) ≡ None)) [
           | true ↦ λ e. absurd (let other : Some (TableExists table) ≡ None = sym (refused_existing e) ∙ none in cc)
           | false ↦ λ e. (refl, sym (unfolded ∙ rw e refl) ∙ none)
         ] refl
@@ -67,7 +67,7 @@ module _ (table : List ℕ) (columns : List Column) (distribution : Option (List
     -- its refusals are allowed outside a transaction
     pub cause_allowed : (cause : Refusal) → refusal st 1 (Create table columns distribution) ≡ Some cause → IsAllowedRefusal st 1 cause
     cause_allowed cause is =
-        elim (has_table table (newest st)) as (λ b. has_table table (newest st) ≡ b → IsAllowedRefusal st 1 cause) [
+        elim (has_table table (newest st).tables) as (λ b. has_table table (newest st).tables ≡ b → IsAllowedRefusal st 1 cause) [
           | true ↦ λ e.
               let same : TableExists table ≡ cause = (let both : Some (TableExists table) ≡ Some cause = sym (refused_existing e) ∙ is in cc) in
               let Q : State → Type 0 = λ s. IsAllowedRefusal s 1 (TableExists table) in

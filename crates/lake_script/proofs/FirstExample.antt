@@ -17,7 +17,7 @@ use Rattle.lake_model.specs.Evaluation.{Look, look, look_step, of_value, value_a
 use Rattle.lake_model.specs.Listing.{ordered}
 use Rattle.lake_model.specs.Query.{checked, order_cmp, plain}
 use Rattle.lake_model.specs.State.{state, view}
-use Rattle.lake_model.specs.Versions.{Version, rows_of}
+use Rattle.lake_model.specs.Versions.{Tables, rows_of}
 use Rattle.lake_model.specs.Writing.{effect_if_bound, queried, result_over, schemas_of}
 use Rattle.lake_script.specs.Examples.{row, entries, query_of}
 
@@ -26,7 +26,7 @@ look_column : (r : List Value) (c : ℕ) → look r (Column c) ≡ of_value (val
 look_column r c = ap (look r) (sym (rolls-Column c)) ∙ fold-roll-BoundExpr Look (look_step r) _
 
 -- the version that the query sees
-abbrev pub seen : Version
+abbrev pub seen : Tables
 seen = view (state (take 5 entries)) 1
 
 abbrev bound_query : Query

@@ -4,7 +4,6 @@ use Rattle.std.proofs.lemmas.List.{map-append}
 use Rattle.lake_values.specs.Schemas.{AllDistinct, TableColumns}
 use Rattle.lake_values.specs.declared.schemas.Column.{Column}
 use Rattle.lake_model.specs.declared.bound.Bound.{Bound}
-use Rattle.lake_model.specs.declared.entries.Entry.{Entry}
 use Rattle.lake_model.specs.declared.entries.Fact.TheVariants as fact
 use Rattle.lake_model.specs.declared.replies.Refusal.{Refusal}
 use Rattle.lake_model.specs.declared.replies.Refusal.TheVariants.{TableExists}
@@ -16,8 +15,8 @@ use Rattle.lake_model.specs.Binding.{IsBound, IsRefused}
 use Rattle.lake_model.specs.Answers.{schema_of}
 use Rattle.lake_model.specs.Refusals.{refusal}
 use Rattle.lake_model.specs.Scopes.{TableSchemas}
-use Rattle.lake_model.specs.State.{state}
-use Rattle.lake_model.specs.Versions.{Version, Table, has_table}
+use Rattle.lake_model.specs.State.{Noted, state}
+use Rattle.lake_model.specs.Versions.{Tables, Table, has_table}
 use Rattle.lake_script.specs.Lakes.{IsHome, entry_of}
 use Rattle.lake_script.proofs.Creating.{is_new, distinct_of, refused_existing, refused_bound, not_refused}
 use Rattle.lake_script.proofs.Homes.{Makes, create_makes}
@@ -36,7 +35,7 @@ known_more xs ys zs known name schema e f n s =
 
 -- whether a CREATE is refused by a lake that has these tables
 
-module _ (entries : List Entry) (tables : Version) (schemas : TableSchemas) (last number : ℕ) (h : IsHome entries tables schemas last number) (x : Statement)
+module _ (entries : List Noted) (tables : Tables) (schemas : TableSchemas) (last number : ℕ) (h : IsHome entries tables schemas last number) (x : Statement)
     (table : List ℕ) (columns : List Column) (distribution : Option (List ℕ)) (is : x ≡ Create table columns distribution) where
   pub taken : has_table table tables ≡ true → refusal (state entries) 1 x ≡ Some (TableExists table)
   taken there = ap (refusal (state entries) 1) is ∙ refused_existing table columns distribution (state entries) h.alone (ap (has_table table) h.tables_are ∙ there)
@@ -51,7 +50,7 @@ module _ (entries : List Entry) (tables : Version) (schemas : TableSchemas) (las
       let P : Statement → Type 0 = λ y. IsBound y [] form in
       ap (refusal (state entries) 1) is ∙ not_refused table columns distribution (state entries) h.alone (ap (has_table table) h.tables_are ∙ absent) form (subst P is bound_so)
 
-module _ (entries : List Entry) (tables : Version) (schemas : TableSchemas) (last number : ℕ) (h : IsHome entries tables schemas last number) (n : Numbered)
+module _ (entries : List Noted) (tables : Tables) (schemas : TableSchemas) (last number : ℕ) (h : IsHome entries tables schemas last number) (n : Numbered)
     (table : List ℕ) (columns : List Column) (distribution : Option (List ℕ)) (first : n.session ≡ 1) (is : n.statement ≡ Create table columns distribution)
     (none : refusal (state entries) 1 n.statement ≡ None) where
   new_table : (has_table table tables ≡ false) × AllDistinct (map (λ c. c.name) columns)

@@ -14,7 +14,7 @@ use Rattle.lake_model.specs.declared.replies.Verb.TheVariants.{Inserted, Updated
 use Rattle.lake_model.specs.Allowed.{IsPartOf, ChangesByReply}
 use Rattle.lake_model.specs.Changes.{no_change, is_unchanged, addition, change_of}
 use Rattle.lake_model.specs.Query.{plain}
-use Rattle.lake_model.specs.Versions.{Version, marked_rows_of, rows_of, all_rows}
+use Rattle.lake_model.specs.Versions.{Tables, marked_rows_of, rows_of, all_rows}
 use Rattle.lake_model.specs.Writing as writing
 use Rattle.lake_model.proofs.Removal.{nothing_part, matched_part}
 use Rattle.lake_script.specs.Tables.{is_written}
@@ -33,7 +33,7 @@ query_made (Ok rows) is = (rows, ok_same is)
 query_made (Err refusal) is = absurd cc
 
 -- what holds of each kind of effect holds of the effect of each statement
-module _ (version : Version) (part : ℕ) (P : writing.Effect → Type 0)
+module _ (version : Tables) (part : ℕ) (P : writing.Effect → Type 0)
     (of_query : (rows : List (List Value)) → P (Rows rows, no_change))
     (of_insert : (table : List ℕ) (rows : List (List Value)) → P (writing.wrote Inserted (length rows), change_of table part [] rows))
     (of_matched : (verb : Verb) (count : ℕ) (table : List ℕ) (p : List Value → Bool) (added : List (List Value)) → P (writing.wrote verb count, change_of table part (filter (λ m. p m.row) (marked_rows_of table version)) added))
@@ -58,7 +58,7 @@ own_part : (table : List ℕ) (part : ℕ) (rows : List (List Value)) → AllByR
 own_part table part [] = tt
 own_part table part (row ∷ rows) = (refl, tt)
 
-pub own_change : (form : Bound) (version : Version) (part : ℕ) (reply : Reply) (change : Change) → writing.effect_of form version part ≡ Ok (reply, change) →
+pub own_change : (form : Bound) (version : Tables) (part : ℕ) (reply : Reply) (change : Change) → writing.effect_of form version part ≡ Ok (reply, change) →
     IsPartOf change.removed (all_rows version) × AllByRecursion (λ added. added.part ≡ part) change.added × ChangesByReply reply change
 own_change form version part reply change is =
     each_effect version part (λ e. IsPartOf e.1.removed (all_rows version) × AllByRecursion (λ added. added.part ≡ part) e.1.added × ChangesByReply e.0 e.1)
@@ -74,7 +74,7 @@ one_addition : (table : List ℕ) (part : ℕ) (rows : List (List Value)) → le
 one_addition table part [] = omega arith
 one_addition table part (row ∷ rows) = omega arith
 
-pub added_once : (form : Bound) (version : Version) (part : ℕ) (reply : Reply) (change : Change) → writing.effect_of form version part ≡ Ok (reply, change) → length change.added ≤ 1
+pub added_once : (form : Bound) (version : Tables) (part : ℕ) (reply : Reply) (change : Change) → writing.effect_of form version part ≡ Ok (reply, change) → length change.added ≤ 1
 added_once form version part reply change is =
     each_effect version part (λ e. length e.1.added ≤ 1)
     (λ rows. omega arith) (λ table rows. one_addition table part rows) (λ verb count table p added. one_addition table part added) (omega arith)
@@ -82,7 +82,7 @@ added_once form version part reply change is =
 
 -- an INSERT, an UPDATE or a DELETE says what it wrote; another statement changes nothing
 
-pub written_reply : (form : Bound) (version : Version) (part : ℕ) (reply : Reply) (change : Change) → is_written form ≡ true → writing.effect_of form version part ≡ Ok (reply, change) →
+pub written_reply : (form : Bound) (version : Tables) (part : ℕ) (reply : Reply) (change : Change) → is_written form ≡ true → writing.effect_of form version part ≡ Ok (reply, change) →
     (verb : Verb) × (count : ℕ) × (reply ≡ Wrote verb count None)
 written_reply (Insert table rows column) version part reply change written is = (Inserted, length rows, sym (ap (λ (e : writing.Effect). e.0) (ok_same is)))
 written_reply (Update table guards computed items column) version part reply change written is =
@@ -95,14 +95,14 @@ written_reply (Delete table guards computed) version part reply change written i
 written_reply (Select q) version part reply change written is = absurd cc
 written_reply (Named table) version part reply change written is = absurd cc
 
-pub unwritten_unchanged : (form : Bound) (version : Version) (part : ℕ) (reply : Reply) (change : Change) → is_written form ≡ false → writing.effect_of form version part ≡ Ok (reply, change) → is_unchanged change ≡ true
+pub unwritten_unchanged : (form : Bound) (version : Tables) (part : ℕ) (reply : Reply) (change : Change) → is_written form ≡ false → writing.effect_of form version part ≡ Ok (reply, change) → is_unchanged change ≡ true
 unwritten_unchanged (Select q) version part reply change unwritten is = ap (λ (e : writing.Effect). is_unchanged e.1) (sym (query_made (plain q (rows_of version)) is).1)
 unwritten_unchanged (Named table) version part reply change unwritten is = ap (λ (e : writing.Effect). is_unchanged e.1) (sym (ok_same is))
 unwritten_unchanged (Insert table rows column) version part reply change unwritten is = absurd cc
 unwritten_unchanged (Update table guards computed items column) version part reply change unwritten is = absurd cc
 unwritten_unchanged (Delete table guards computed) version part reply change unwritten is = absurd cc
 
-pub changed_written : (form : Bound) (version : Version) (part : ℕ) (reply : Reply) (change : Change) → is_unchanged change ≡ false → writing.effect_of form version part ≡ Ok (reply, change) → is_written form ≡ true
+pub changed_written : (form : Bound) (version : Tables) (part : ℕ) (reply : Reply) (change : Change) → is_unchanged change ≡ false → writing.effect_of form version part ≡ Ok (reply, change) → is_written form ≡ true
 changed_written form version part reply change changed is =
     elim (is_written form) as (λ b. is_written form ≡ b → b ≡ true) [
       | true ↦ λ written. refl

@@ -10,7 +10,7 @@ use Rattle.std.proofs.Math.Seq.{map-set_same}
 use Rattle.lake_values.specs.Schemas.{TableColumns}
 use Rattle.lake_values.specs.declared.values.Value.{Value}
 use Rattle.lake_model.specs.declared.entries.MarkedRow.{MarkedRow}
-use Rattle.lake_model.specs.Versions.{Table, Version, same_text, has_table, marked_rows_of}
+use Rattle.lake_model.specs.Versions.{Table, Tables, same_text, has_table, marked_rows_of}
 use Rattle.lake_model.proofs.Texts.{same_text_is}
 use Rattle.lake_script.specs.declared.tables.Kept.{Kept}
 use Rattle.lake_script.specs.declared.tables.Table.{Table as KeptTable}
@@ -81,7 +81,7 @@ none_found f p (x ∷ xs) all = rw all.0 (none_found f p xs all.1)
 
 -- the table of a name stands at the place
 
-abbrev pub IsAt : List ℕ → Version → ℕ → Type 0
+abbrev pub IsAt : List ℕ → Tables → ℕ → Type 0
 IsAt name version place = IsFirst (λ t. same_text t.name name) version place
 
 -- what the code finds in a slice of the tables
@@ -136,14 +136,14 @@ pub changed_set : (rows : Table → List MarkedRow) (xs : List KeptTable) (place
     map seen (set xs place u) ≡ changed_at rows place (map seen xs)
 changed_set rows [] place t u e same = refl
 changed_set rows (x ∷ xs) zero t u e same = ap (λ (v : Table). v ∷ map seen xs) (same ∙ ap (λ (k : KeptTable). record (seen k) { rows = rows (seen k) }) e)
-changed_set rows (x ∷ xs) (suc place) t u e same = ap (λ (ts : Version). seen x ∷ ts) (changed_set rows xs place t u e same)
+changed_set rows (x ∷ xs) (suc place) t u e same = ap (λ (ts : Tables). seen x ∷ ts) (changed_set rows xs place t u e same)
 
 -- the rows are changed twice at the place
-pub changed_twice : (first second both : Table → List MarkedRow) → ((t : Table) → second (record t { rows = first t }) ≡ both t) → (place : ℕ) (version : Version) →
+pub changed_twice : (first second both : Table → List MarkedRow) → ((t : Table) → second (record t { rows = first t }) ≡ both t) → (place : ℕ) (version : Tables) →
     changed_at second place (changed_at first place version) ≡ changed_at both place version
 changed_twice first second both same place [] = refl
 changed_twice first second both same zero (t ∷ ts) = ap (λ (rows : List MarkedRow). record t { rows = rows } ∷ ts) (same t)
-changed_twice first second both same (suc place) (t ∷ ts) = ap (λ (us : Version). t ∷ us) (changed_twice first second both same place ts)
+changed_twice first second both same (suc place) (t ∷ ts) = ap (λ (us : Tables). t ∷ us) (changed_twice first second both same place ts)
 
 -- rows with their marks: those that are left, and the rows alone
 

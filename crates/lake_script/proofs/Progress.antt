@@ -4,11 +4,10 @@ use Rattle.std.specs.List.{AllByRecursion}
 use Rattle.std.specs.Io.KnownBytes.{Appends}
 use Rattle.std.proofs.lemmas.List.{append-nil, length-append, take-append-drop, take_all}
 use Rattle.std.proofs.lemmas.Grind.{flat_map-append}
-use Rattle.lake_model.specs.declared.entries.Entry.{Entry}
 use Rattle.lake_model.specs.declared.scripts.Numbered.{Numbered}
 use Rattle.lake_model.specs.declared.scripts.Step.{Step}
 use Rattle.lake_model.specs.declared.scripts.Step.TheVariants.{One}
-use Rattle.lake_model.specs.State.{state, stated}
+use Rattle.lake_model.specs.State.{Noted, state, stated}
 use Rattle.lake_model.specs.Allowed.{IsLegal}
 use Rattle.lake_model.specs.Following.{Follows, IsAnswered, statements}
 use Rattle.lake_model.specs.Text.{text, run_text}
@@ -20,7 +19,7 @@ use Rattle.lake_script.specs.Steps.{RanStep, StoppedStep}
 use Rattle.lake_script.proofs.Streams.{appends_more, appends_none}
 
 -- the first `count` steps have run
-pub record Progress (before after : Option (List ℕ)) (entries : List Entry) (steps : List Step) (count : ℕ) : Type 0 where
+pub record Progress (before after : Option (List ℕ)) (entries : List Noted) (steps : List Step) (count : ℕ) : Type 0 where
   pub legal : IsLegal entries
   pub follows : Follows entries (take count steps)
   pub text : Appends before after (text entries (take count steps))
@@ -55,7 +54,7 @@ some_left [] k h = absurd (omega arith)
 some_left (x ∷ xs) zero h = (x, xs, refl)
 some_left (x ∷ xs) (suc k) h = some_left xs k (omega arith)
 
-module _ (before middle after : Option (List ℕ)) (old new : List Entry) (steps : List Step) (count : ℕ) (n : Numbered)
+module _ (before middle after : Option (List ℕ)) (old new : List Noted) (steps : List Step) (count : ℕ) (n : Numbered)
     (so_far : Progress before middle old steps count) (h : count < length steps) (is : One n ≡ get_or steps count (One n)) where
   done_now : take (count + 1) steps ≡ take count steps ++ One n ∷ []
   done_now = (take_next steps count (One n) h is).0
@@ -71,7 +70,7 @@ module _ (before middle after : Option (List ℕ)) (old new : List Entry) (steps
 
   pub one_more : RanStep old new n middle after → Progress before after new steps (count + 1)
   one_more ran =
-      let P : List Entry → Type 0 = λ es. Progress before after es steps (count + 1) in
+      let P : List Noted → Type 0 = λ es. Progress before after es steps (count + 1) in
       subst P (sym ran.added) record {
         legal = legal_more old ran.run (take count steps) n so_far.follows below_now ran.answered so_far.legal;
         follows = (let Q : List Step → Type 0 = λ xs. Follows (old ++ ran.run) xs in
@@ -90,14 +89,14 @@ module _ (before middle after : Option (List ℕ)) (old new : List Entry) (steps
   first_steps = sym (ap (λ (xs : List Step). xs ++ drop (count + 1) steps) (sym done_now) ∙ take-append-drop (count + 1) steps)
 
   -- the text with the statement: what was written before, and its reply
-  text_now : (run : List Entry) → IsAnswered (state old) n run → text (old ++ run) (take count steps ++ One n ∷ []) ≡ text old (take count steps) ++ run_text n.place (stated (state old) run)
+  text_now : (run : List Noted) → IsAnswered (state old) n run → text (old ++ run) (take count steps ++ One n ∷ []) ≡ text old (take count steps) ++ run_text n (stated (state old) run)
   text_now run answered = text_more old run (take count steps) n so_far.follows below_now answered
 
   pub halts : StoppedStep ◌<◌ old new n middle after → HasHalted before after new steps
   halts stopped =
-      let reply : List ℕ = run_text n.place (stated (state old) stopped.run) in
+      let reply : List ℕ = run_text n (stated (state old) stopped.run) in
       let left = some_left reply stopped.taken stopped.within in
-      let P : List Entry → Type 0 = λ es. HasHalted before after es steps in
+      let P : List Noted → Type 0 = λ es. HasHalted before after es steps in
       subst P (sym stopped.added) record {
         done = take count steps;
         last = One n;
@@ -122,7 +121,7 @@ module _ (before middle after : Option (List ℕ)) (old new : List Entry) (steps
 
   pub begins : StoppedStep ◌≤◌ old new n middle after → HasBegun before after steps
   begins stopped =
-      let reply : List ℕ = run_text n.place (stated (state old) stopped.run) in
+      let reply : List ℕ = run_text n (stated (state old) stopped.run) in
       record {
         done = take count steps ++ One n ∷ [];
         rest = drop (count + 1) steps;
@@ -154,7 +153,7 @@ module _ (before middle after : Option (List ℕ)) (old new : List Entry) (steps
   }
 
 -- all steps have run
-pub has_run : (before after : Option (List ℕ)) (entries : List Entry) (steps : List Step) (count : ℕ) → Progress before after entries steps count → length steps ≤ count → HasRun before after entries steps
+pub has_run : (before after : Option (List ℕ)) (entries : List Noted) (steps : List Step) (count : ℕ) → Progress before after entries steps count → length steps ≤ count → HasRun before after entries steps
 has_run before after entries steps count so_far h =
     let all : take count steps ≡ steps = take_all count steps h in
     record {

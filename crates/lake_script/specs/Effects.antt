@@ -3,8 +3,8 @@ use Rattle.std.specs.Prelude.{Result, Ok, Err}
 use Rattle.lake_model.specs.declared.replies.Refusal.{Refusal}
 use Rattle.lake_model.specs.declared.replies.Refusal.TheVariants.{Arith}
 use Rattle.lake_model.specs.Writing as writing
-use Rattle.plain_query.specs.declared.conditions.EvaluationFault.{EvaluationFault}
-use Rattle.plain_query.specs.declared.conditions.EvaluationFault.TheVariants as evaluation
+use Rattle.row_evaluation.specs.declared.rows.EvaluationFault.{EvaluationFault}
+use Rattle.row_evaluation.specs.declared.rows.EvaluationFault.TheVariants as evaluation
 use Rattle.sql_binder.specs.declared.faults.BindFault.{BindFault}
 use Rattle.sql_binder.specs.declared.faults.BindFault.TheVariants as binding
 use Rattle.lake_script.specs.declared.effects.Effect.{Effect}

@@ -4,7 +4,6 @@ use Rattle.lake_values.specs.declared.schemas.ColType.TheVariants.{Int as IntTyp
 use Rattle.lake_values.specs.declared.schemas.Column.{Column}
 use Rattle.lake_values.specs.declared.values.Value.{Value}
 use Rattle.lake_values.specs.declared.values.Value.TheVariants.{Int}
-use Rattle.lake_model.specs.declared.entries.Entry.{Entry}
 use Rattle.lake_model.specs.declared.entries.Fact.{Fact}
 use Rattle.lake_model.specs.declared.entries.Fact.TheVariants as fact
 use Rattle.lake_model.specs.declared.replies.Reply.TheVariants as reply
@@ -12,6 +11,7 @@ use Rattle.lake_model.specs.declared.replies.Verb.TheVariants.{Inserted}
 use Rattle.lake_model.specs.declared.scripts.Step.{Step}
 use Rattle.lake_model.specs.declared.statements.Statement.TheVariants.{Create, Insert, Select}
 use Rattle.lake_model.specs.Changes.{no_change}
+use Rattle.lake_model.specs.State.{Noted}
 use Rattle.lake_model.specs.declared.statements.Select.{Select as Query}
 use Rattle.sql_tokens.specs.declared.faults.ParseKind.TheVariants.{Syntax}
 use Rattle.sql_tokens.specs.declared.faults.ScriptBad.{ScriptBad}
@@ -44,12 +44,12 @@ steps =
     step_of 1 (Create (codes "t") columns None) ∷ step_of 2 (Insert (codes "t") (row 2 ∷ row 1 ∷ row 1 ∷ []))
     ∷ step_of 3 (Select (query_of (codes "t"))) ∷ []
 
-abbrev pub entry_at : ℕ → Fact → Entry
-entry_at place f = record { session = 1; place = place; fact = f }
+abbrev pub entry_at : ℕ → Fact → Noted
+entry_at place f = record { entry = record { session = 1; place = place; fact = f }; ends = false }
 
 -- each statement with the entries that it adds: the table is created as version 1; the rows are added in a
 -- transaction of their own, which becomes version 2; and a second transaction answers the query
-abbrev pub entries : List Entry
+abbrev pub entries : List Noted
 entries =
     entry_at 1 (fact.Created (codes "t") (record { columns = columns; distribution = 0 }) 1)
     ∷ entry_at 2 (fact.Began false 1 1)
@@ -62,7 +62,7 @@ entries =
     ∷ []
 
 -- what is no chronicle of the script: the query answers without the second 1
-abbrev pub entries_without_a_row : List Entry
+abbrev pub entries_without_a_row : List Noted
 entries_without_a_row =
     entry_at 1 (fact.Created (codes "t") (record { columns = columns; distribution = 0 }) 1)
     ∷ entry_at 2 (fact.Began false 1 1)

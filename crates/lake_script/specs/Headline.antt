@@ -2,10 +2,10 @@
 use Rattle.std.specs.Prelude.{◌≡◌, ◌<◌, ◌≤◌, ◌⊎◌, ℕ, List, [], ◌∷◌, ◌++◌, Option, None, Ok, Err, length, IsSomeAnd}
 use Rattle.std.specs.Io.KnownBytes.{Consumes, IsAtEnd, Appends}
 use Rattle.lake_outside.specs.Counts.{Rises}
-use Rattle.lake_model.specs.declared.entries.Entry.{Entry}
 use Rattle.lake_model.specs.declared.scripts.Step.{Step}
 use Rattle.lake_model.specs.Allowed.{IsLegal}
 use Rattle.lake_model.specs.Following.{Follows}
+use Rattle.lake_model.specs.State.{Noted}
 use Rattle.lake_model.specs.Text.{text}
 use Rattle.sql_tokens.specs.declared.faults.ScriptBad.{ScriptBad}
 use Rattle.lake_script.specs.declared.status.Status.{Status}
@@ -53,14 +53,14 @@ abbrev pub IsProperPrefix : List ℕ → List ℕ → Type 0
 IsProperPrefix xs ys = (y : ℕ) × (rest : List ℕ) × (ys ≡ xs ++ y ∷ rest)
 
 -- the chronicle is legal and follows the steps, and its text was written
-pub record HasRun (before after : Option (List ℕ)) (entries : List Entry) (steps : List Step) : Type 0 where
+pub record HasRun (before after : Option (List ℕ)) (entries : List Noted) (steps : List Step) : Type 0 where
   pub legal : IsLegal entries
   pub follows : Follows entries steps
   pub text : Appends before after (text entries steps)
 
 -- the chronicle is legal and follows the steps up to one whose text was written in part: what was written
 -- begins with the text of the steps before it, and is less than the text with it
-pub record HasHalted (before after : Option (List ℕ)) (entries : List Entry) (steps : List Step) : Type 0 where
+pub record HasHalted (before after : Option (List ℕ)) (entries : List Noted) (steps : List Step) : Type 0 where
   pub done : List Step
   pub last : Step
   pub rest : List Step
@@ -77,7 +77,7 @@ pub record HasBegun (before after : Option (List ℕ)) (steps : List Step) : Typ
   pub done : List Step
   pub rest : List Step
   pub first : steps ≡ done ++ rest
-  pub entries : List Entry
+  pub entries : List Noted
   pub legal : IsLegal entries
   pub follows : Follows entries done
   pub written : List ℕ
@@ -102,7 +102,7 @@ pub record Outside : Type 0 where
   pub idle_after : ℕ
 
 -- what each status says of a run
-abbrev pub EndsAs : Outside → List (List ℕ) → Status → Option (List Entry) → Type 0
+abbrev pub EndsAs : Outside → List (List ℕ) → Status → Option (List Noted) → Type 0
 EndsAs o words Done lake = IsCommand words × IsSomeAnd lake (λ entries. ReadsScript (HasRun o.written_before o.written_after entries) o.left_before o.left_after)
 EndsAs o words Usage lake = (¬ IsCommand words) × (lake ≡ None)
 EndsAs o words (ScriptRefused bad) lake = IsCommand words × (lake ≡ None) × ReadsRefused bad o.left_before o.left_after

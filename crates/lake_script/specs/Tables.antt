@@ -7,9 +7,9 @@ use Rattle.lake_model.specs.declared.bound.Bound.TheVariants.{Select, Insert, Up
 use Rattle.lake_model.specs.declared.bound.BoundExpr.{BoundExpr}
 use Rattle.lake_model.specs.declared.entries.Change.{Change}
 use Rattle.lake_model.specs.declared.entries.MarkedRow.{MarkedRow}
-use Rattle.lake_model.specs.Versions.{Table, Version, has_table}
+use Rattle.lake_model.specs.Versions.{Table, Tables, has_table}
 use Rattle.lake_model.specs.Writing.{condition_fits, is_matched}
-use Rattle.plain_query.specs.Conditions.{AreGuards}
+use Rattle.row_evaluation.specs.Conditions.{AreGuards}
 use Rattle.lake_script.specs.declared.tables.Kept.{Kept}
 use Rattle.lake_script.specs.declared.tables.Table.{Table as KeptTable}
 
@@ -21,12 +21,12 @@ abbrev pub seen : KeptTable → Table
 seen t = record { name = t.name; schema = t.schema; rows = map (marked_as t.name) t.rows.items }
 
 -- no two tables have one name
-abbrev pub HasOwnNames : Version → Type 0
+abbrev pub HasOwnNames : Tables → Type 0
 HasOwnNames [] = Unit {0}
 HasOwnNames (t ∷ ts) = (has_table t.name ts ≡ false) × HasOwnNames ts
 
 -- the version with other rows in the table at a place
-abbrev pub changed_at : (Table → List MarkedRow) → ℕ → Version → Version
+abbrev pub changed_at : (Table → List MarkedRow) → ℕ → Tables → Tables
 changed_at rows place [] = []
 changed_at rows zero (t ∷ ts) = record t { rows = rows t } ∷ ts
 changed_at rows (suc place) (t ∷ ts) = t ∷ changed_at rows place ts

@@ -6,14 +6,14 @@ ghost use Rattle.lake_model.specs.declared.bound.Bound.TheVariants as bound;
 ghost use Rattle.lake_model.specs.declared.replies.Verb.TheVariants as verb;
 ghost use Rattle.lake_model.specs.Changes.{addition, change_of, no_change};
 ghost use Rattle.lake_model.specs.Form.{is_form};
-ghost use Rattle.lake_model.specs.Answers.{runs_alone};
+ghost use Rattle.lake_model.specs.Answers.{reads_rows};
 ghost use Rattle.lake_model.specs.Versions.{rows_of};
 ghost use Rattle.lake_model.specs.Writing as writing;
-ghost use Rattle.plain_query.specs.Conditions.{AreGuards};
 ghost use Rattle.plain_query.specs.Databases.{IsReady, rows_lent};
+ghost use Rattle.row_evaluation.specs.Conditions.{AreGuards};
 ghost use Rattle.lake_script.specs.Effects.{IfRefused, effect_seen};
 ghost use Rattle.lake_script.specs.Tables.{marked_as, seen};
-ghost use Rattle.plain_query.specs.declared.conditions.EvaluationFault.TheVariants as fault;
+ghost use Rattle.row_evaluation.specs.declared.rows.EvaluationFault.TheVariants as fault;
 
 use crate::tables::{Kept, Table, rows_named};
 use lake_model::{
@@ -21,7 +21,8 @@ use lake_model::{
     Statement, Verb, in_mark_order, in_row_order,
 };
 use lake_values::{Listed, NoMemory, Row, Rows, Text, copy_rows};
-use plain_query::{EvaluationFault, QueryFault, evaluated, is_matched, plain};
+use plain_query::{QueryFault, plain};
+use row_evaluation::{EvaluationFault, evaluated, is_matched};
 use sql_binder::{BindFault, bind};
 use std::alloc::{AllocError, AllocFailed, Global};
 
@@ -97,7 +98,7 @@ pub fn run_over(
     tables: &[Table],
 ) -> Result<(Bound, Effect), EffectFault>
     requires form { is_form statement.now ≡ true }
-    requires alone { runs_alone statement.now ≡ true }
+    requires alone { reads_rows statement.now ≡ true }
     requires schemas { schemas.now ≡ writing.schemas_of (map seen tables.now) }
     ensures bound { IfOk result (λ made. IsBound statement.now schemas.now made.0) }
     ensures effect { IfOk result (λ made. writing.effect_of made.0 (map seen tables.now) 1 ≡ Ok (effect_seen made.1)) }

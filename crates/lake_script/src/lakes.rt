@@ -2,7 +2,7 @@ ghost use Rattle.std.specs.Prelude.{◌≡◌, ◌+◌, true, false, ◌^◌, �
 ghost use Rattle.lake_values.specs.Schemas.{AllDistinct};
 ghost use Rattle.lake_model.specs.declared.entries.Fact.TheVariants as fact;
 ghost use Rattle.lake_model.specs.declared.statements.Statement.TheVariants as statement;
-ghost use Rattle.lake_model.specs.Answers.{distribution_of, runs_alone, schema_of};
+ghost use Rattle.lake_model.specs.Answers.{distribution_of, reads_rows, schema_of};
 ghost use Rattle.lake_model.specs.Binding.{IsBound};
 ghost use Rattle.lake_model.specs.Changes.{is_unchanged};
 ghost use Rattle.lake_model.specs.Refusals.{refusal};
@@ -43,16 +43,16 @@ pub struct LakeState<P: Port> {
 
 impl<P: Port> Model for LakeState<P> {
     ghost use Rattle.std.specs.Prelude.{List, map};
-    ghost use Rattle.lake_model.specs.declared.entries.Entry.{Entry as Member};
+    ghost use Rattle.lake_model.specs.State.{Noted};
 
-    ghost Value = { List Member };
+    ghost Value = { List Noted };
 
     ghost use Rattle.lake_script.specs.Tables.{seen};
-    ghost use Rattle.lake_script.specs.Lakes.{IsHome};
+    ghost use Rattle.lake_script.specs.Lakes.{IsHome, chronicle_of};
 
-    ghost view = { λ l. l.chronicle };
+    ghost view = { λ l. chronicle_of l.chronicle };
 
-    ghost invariant = { λ l. IsHome l.chronicle (map seen l.tables.items) l.schemas.items l.last l.last_number };
+    ghost invariant = { λ l. IsHome (chronicle_of l.chronicle) (map seen l.tables.items) l.schemas.items l.last l.last_number };
 }
 
 impl<P: Port> LakeState<P> {
@@ -72,7 +72,7 @@ impl<P: Port> LakeState<P> {
 
     /// All entries in the order in which they took place.
     pub fn chronicle(&self) -> &Chronicle
-        ensures { result.now ≡ self.now }
+        ensures { result.now ≡ map (λ e. e.entry) self.now }
     {
         &self.chronicle
     }
@@ -98,7 +98,7 @@ impl<P: Port> LakeState<P> {
     fn run_alone(&mut self, alloc: Global, n: &Numbered) -> Result<Reply, NoMemory>
         requires room { length self.old < 2 ^ 62 }
         requires runnable { IsRunnable n.now }
-        requires alone { runs_alone n.now.statement ≡ true }
+        requires alone { reads_rows n.now.statement ≡ true }
         ensures ok { IfOk result (λ reply. IsRunBy self.old self.new n.now reply) }
         ensures err { OnErr result (self.new ≡ self.old) }
     {
@@ -122,8 +122,8 @@ impl<P: Port> LakeState<P> {
     fn refuse(&mut self, alloc: Global, n: &Numbered, cause: Refusal) -> Result<Reply, NoMemory>
         requires room { length self.old < 2 ^ 62 }
         requires runnable { IsRunnable n.now }
-        requires alone { runs_alone n.now.statement ≡ true }
-        requires cause { writing.result_over (newest (state self.old)) 1 n.now.statement ≡ Err cause }
+        requires alone { reads_rows n.now.statement ≡ true }
+        requires cause { writing.result_over ((newest (state self.old)).tables) 1 n.now.statement ≡ Err cause }
         ensures ok { IfOk result (λ reply. IsRunBy self.old self.new n.now reply) }
         ensures err { OnErr result (self.new ≡ self.old) }
     {
@@ -139,8 +139,8 @@ impl<P: Port> LakeState<P> {
     fn end(&mut self, alloc: Global, n: &Numbered, effect: Effect) -> Result<Reply, NoMemory>
         requires room { length self.old < 2 ^ 62 }
         requires runnable { IsRunnable n.now }
-        requires alone { runs_alone n.now.statement ≡ true }
-        requires effect { writing.result_over (newest (state self.old)) 1 n.now.statement ≡ Ok (effect_seen effect) }
+        requires alone { reads_rows n.now.statement ≡ true }
+        requires effect { writing.result_over ((newest (state self.old)).tables) 1 n.now.statement ≡ Ok (effect_seen effect) }
         requires unchanged { is_unchanged effect.change ≡ true }
         ensures ok { IfOk result (λ reply. IsRunBy self.old self.new n.now reply) }
         ensures err { OnErr result (self.new ≡ self.old) }
@@ -163,9 +163,9 @@ impl<P: Port> LakeState<P> {
     ) -> Result<Reply, NoMemory>
         requires room { length self.old < 2 ^ 62 }
         requires runnable { IsRunnable n.now }
-        requires alone { runs_alone n.now.statement ≡ true }
-        requires bound { IsBound n.now.statement (writing.schemas_of (newest (state self.old))) bound.now }
-        requires effect { writing.effect_of bound.now (newest (state self.old)) 1 ≡ Ok (effect_seen effect) }
+        requires alone { reads_rows n.now.statement ≡ true }
+        requires bound { IsBound n.now.statement (writing.schemas_of ((newest (state self.old)).tables)) bound.now }
+        requires effect { writing.effect_of bound.now ((newest (state self.old)).tables) 1 ≡ Ok (effect_seen effect) }
         requires changed { is_unchanged effect.change ≡ false }
         ensures ok { IfOk result (λ reply. IsRunBy self.old self.new n.now reply) }
         ensures err { OnErr result (self.new ≡ self.old) }

@@ -64,7 +64,7 @@ const NULLS: [(&str, &str); 8] = [
 ];
 
 /// A condition without arithmetic keeps rows from those with it. A sum may pass 64 bits on the way.
-const ARITHMETIC: [(&str, &str); 14] = [
+const ARITHMETIC: [(&str, &str); 16] = [
     ("CREATE TABLE m (a INT, ok INT);", "created m as 1"),
     (
         "INSERT INTO m VALUES (9223372036854775807, 0), (5, 1);",
@@ -76,6 +76,11 @@ const ARITHMETIC: [(&str, &str); 14] = [
         "SELECT a FROM m WHERE ok = 1 AND (a - 1 = 4 AND a * 2 = 10);",
         "1 rows\n(5)",
     ),
+    (
+        "SELECT a FROM m WHERE a + 1 > 0 AND (a + 2 > 0 AND ok = 1);",
+        "1 rows\n(5)",
+    ),
+    ("DELETE FROM m WHERE a + 1 > 0;", "refused: arithmetic"),
     ("SELECT a * 2 FROM m;", "refused: arithmetic"),
     (
         "SELECT ok FROM m WHERE ok = 5 OR a + a > 0;",
@@ -247,7 +252,7 @@ const EXPRESSIONS: [(&str, &str); 14] = [
 ];
 
 /// Aggregates and groups.
-const AGGREGATES: [(&str, &str); 18] = [
+const AGGREGATES: [(&str, &str); 19] = [
     ("CREATE TABLE t (a INT, b INT, c TEXT);", "created t as 1"),
     (
         "INSERT INTO t VALUES (1, 10, 'x'), (2, NULL, 'y'), (3, 30, NULL), (NULL, 40, 'x'), (5, 50, 'it''s'), (2, 20, '');",
@@ -296,6 +301,10 @@ const AGGREGATES: [(&str, &str); 18] = [
     (
         "SELECT c, MIN(b), MAX(b) FROM t WHERE b > 10 GROUP BY c;",
         "4 rows\n(NULL,30,30)\n('',20,20)\n('it''s',50,50)\n('x',40,40)",
+    ),
+    (
+        "SELECT (a), COUNT(*) FROM t WHERE a < 3 GROUP BY a ORDER BY a DESC;",
+        "2 rows\n(2,2)\n(1,1)",
     ),
     ("SELECT MAX(a + b) AS m FROM t;", "1 rows\n(55)"),
     ("SELECT SUM(NULL) FROM t;", "1 rows\n(NULL)"),
@@ -515,11 +524,16 @@ fn a_stage_has_at_most_a_million_rows(rt: HostRuntime) -> Result<(), Fail> {
     script.extend_from_slice(insert_ones(alloc, "t", 1000)?.as_slice())?;
     script.extend_from_slice(insert_ones(alloc, "u", 1000)?.as_slice())?;
     script.extend_from_slice(query)?;
-    script.extend_from_slice(b"INSERT INTO t VALUES (1); INSERT INTO u VALUES (2);\n")?;
+    script.extend_from_slice(b"INSERT INTO t VALUES (2); INSERT INTO u VALUES (2);\n")?;
     script.extend_from_slice(query)?;
+    // neither a condition with arithmetic nor arithmetic that leaves 64 bits comes before the number of rows
+    script.extend_from_slice(b"SELECT t.a * 9223372036854775807 FROM t JOIN u ON t.a = u.a;\n")?;
+    script.extend_from_slice(
+        b"SELECT t.a FROM t JOIN u ON t.a = u.a WHERE t.a + 0 = 2; SELECT t.a FROM t JOIN u ON t.a = u.a WHERE t.a = 2;\n",
+    )?;
     let run = run_script(alloc, "run", script)?;
     let text: &[u8] =
-        b"1: created t as 1\n2: created u as 2\n3: inserted 1000 as 3\n4: inserted 1000 as 4\n5: 2 rows\n(1)\n(1)\n6: inserted 1 as 5\n7: inserted 1 as 6\n8: refused: too many rows\n";
+        b"1: created t as 1\n2: created u as 2\n3: inserted 1000 as 3\n4: inserted 1000 as 4\n5: 2 rows\n(1)\n(1)\n6: inserted 1 as 5\n7: inserted 1 as 6\n8: refused: too many rows\n9: refused: too many rows\n10: refused: too many rows\n11: 1 rows\n(2)\n";
     assert_eq!(rt; run.written.as_slice(), text);
     Ok(())
 }

@@ -3,12 +3,12 @@ ghost use Rattle.lake_model.specs.Changes.{marked};
 ghost use Rattle.lake_model.specs.Evaluation.{value_at};
 ghost use Rattle.lake_model.specs.Versions.{same_text, marked_rows_of};
 ghost use Rattle.lake_values.specs.Cells.{cell};
-ghost use Rattle.plain_query.specs.Conditions.{AreGuards};
+ghost use Rattle.row_evaluation.specs.Conditions.{AreGuards};
 ghost use Rattle.lake_script.specs.Tables.{HasGuards, HasRoom, changed_at, is_gone, marked_as, rows_after, seen, with_more, without_gone};
 
 use lake_model::{Bound, BoundExpr, Mark, MarkedRow};
 use lake_values::{NoMemory, Row, Schema, Text, Value, cell_of};
-use plain_query::{Cells, Standing, is_matched};
+use row_evaluation::{Cells, Standing, is_matched};
 use std::alloc::Global;
 
 /// A row that a table keeps, with what its mark says beside the table.

@@ -284,6 +284,10 @@ fn statuses_have_their_words(rt: HostRuntime) -> Result<(), Fail> {
             "script refused at 1:9: syntax\n",
         ),
         (
+            refusal(1, 24, ParseKind::Syntax),
+            "script refused at 1:24: syntax\n",
+        ),
+        (
             refusal(2, 23, ParseKind::OpenText),
             "script refused at 2:23: open text\n",
         ),

@@ -4,3 +4,4 @@ pub mod Print
 pub mod Reading
 pub mod Schemas
 pub mod Spelling
+pub mod Lending

@@ -8,6 +8,7 @@ mod cells;
 mod faults;
 mod fields;
 mod laws;
+mod lending;
 mod lists;
 mod memory;
 mod names;
@@ -26,6 +27,7 @@ pub use fields::{
     check_left, check_room, read_byte, read_bytes, read_magic, read_utf8, short_text,
 };
 pub use laws::{one_name_spelling, one_text_spelling, one_value_spelling};
+pub use lending::compare_lent;
 pub use lists::Listed;
 pub use memory::NoMemory;
 pub use names::{Kind, Name, Names};

@@ -11,7 +11,7 @@ use Rattle.lake_model.specs.declared.bound.BoundAgg.{BoundAgg}
 use Rattle.lake_model.specs.BoundForms.{is_empty}
 use Rattle.lake_model.specs.Groups.{aggregate_fits, same_row, distinct, key_of, group_keys, members, group_row, groups, groups_fit}
 use Rattle.plain_query.specs.Keys.{differ_in}
-use Rattle.plain_query.proofs.Filters.{filter_keep, filter_skip, filters_commute, filter_within, map_where, filter_of_map}
+use Rattle.row_evaluation.proofs.Filters.{filter_keep, filter_skip, filters_commute, filter_within, map_where, filter_of_map}
 
 abbrev pub Row : Type 0
 Row = List Value

@@ -1,10 +1,6 @@
-pub mod Filters
 pub mod Grouping
 pub mod Joining
-pub mod Limits
-pub mod Loops
 pub mod Ordered
-pub mod Parts
 pub mod Ready
 pub mod Runs
 pub mod SameGroups

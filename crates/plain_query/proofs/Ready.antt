@@ -22,9 +22,9 @@ use Rattle.lake_model.specs.Binding.{refused, answered, IsBound}
 use Rattle.lake_model.specs.BoundForms.{has_arithmetic, arithmetic_step, is_within, conjuncts, guards_of, equality, guard_by, guard_of, own_guards, guards_left, join_guards, stage_guards, bound_form}
 use Rattle.lake_model.specs.Form.{is_between, is_filter, is_item, is_source, is_on, is_key, are_names, has_item_count, groups_one_table, has_bounds, is_select, IsInForm}
 use Rattle.lake_model.specs.Scopes.{TableSchemas, source_headings, scope_of, table_scope, column_of}
-use Rattle.plain_query.specs.Conditions.{is_guard, AreGuards}
+use Rattle.row_evaluation.specs.Conditions.{is_guard, AreGuards}
 use Rattle.plain_query.specs.Databases.{AreAllGuards, IsReady}
-use Rattle.plain_query.proofs.Parts.{compare_arithmetic}
+use Rattle.row_evaluation.proofs.Parts.{compare_arithmetic}
 
 -- which members pass among those that a filter keeps
 

@@ -14,7 +14,7 @@ use Rattle.lake_model.specs.BoundForms.{is_empty}
 use Rattle.lake_model.specs.Groups.{aggregate_fits, key_of, group_row, groups, groups_fit}
 use Rattle.lake_model.proofs.Sorting.{UpTo, Rises, all_more, rises_from_sorted}
 use Rattle.plain_query.specs.Keys.{differ_in}
-use Rattle.plain_query.proofs.Filters.{filter_none, filter_all}
+use Rattle.row_evaluation.proofs.Filters.{filter_none, filter_all}
 use Rattle.plain_query.proofs.Grouping.{Row, alike_in, same_itself, groups_step, groups_fit_step}
 
 -- no key is above a later one

@@ -4,7 +4,7 @@ use Rattle.lake_values.specs.declared.values.Value.{Value}
 use Rattle.lake_values.specs.declared.values.Value.TheVariants as value
 use Rattle.lake_model.specs.Evaluation.{is_null}
 use Rattle.lake_model.specs.Groups.{lesser, greater}
-use Rattle.plain_query.specs.Lending.{owned}
+use Rattle.lake_values.specs.Lending.{owned, IsShort}
 use Rattle.plain_query.specs.declared.aggregates.Total.{Total}
 use Rattle.plain_query.specs.declared.aggregates.Total.TheVariants.{AtMostOne, Several}
 use Rattle.plain_query.specs.declared.aggregates.Extreme.{Extreme}
@@ -18,6 +18,11 @@ counted values = length (filter (λ v. not (is_null v)) values)
 abbrev pub totalled : Total → Value
 totalled (AtMostOne v) = owned v
 totalled (Several n) = value.Int n
+
+-- a lone value's text is no longer than a value's text may be
+abbrev pub IsShortTotal : Total → Type 0
+IsShortTotal (AtMostOne v) = IsShort v
+IsShortTotal (Several n) = Unit {0}
 
 -- which of two values stays
 abbrev pub kept_by : Extreme → Value → Value → Value

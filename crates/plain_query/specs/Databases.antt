@@ -9,7 +9,7 @@ use Rattle.lake_model.specs.declared.bound.BoundExpr.{BoundExpr}
 use Rattle.lake_model.specs.declared.bound.Query.{Query}
 use Rattle.lake_model.specs.declared.replies.Refusal.{Refusal}
 use Rattle.lake_model.specs.Query.{Database, stage, too_many, plain}
-use Rattle.plain_query.specs.Conditions.{is_guard, AreGuards}
+use Rattle.row_evaluation.specs.Conditions.{is_guard, AreGuards}
 
 -- no guard of any stage has + - *
 abbrev pub AreAllGuards : List (List BoundExpr) → Type 0

@@ -1,6 +1,6 @@
 -- Why a query has no answer, by what its parts refuse.
-use Rattle.plain_query.specs.declared.conditions.EvaluationFault.{EvaluationFault}
-use Rattle.plain_query.specs.declared.conditions.EvaluationFault.TheVariants as evaluation
+use Rattle.row_evaluation.specs.declared.rows.EvaluationFault.{EvaluationFault}
+use Rattle.row_evaluation.specs.declared.rows.EvaluationFault.TheVariants as evaluation
 use Rattle.plain_query.specs.declared.joins.JoinFault.{JoinFault}
 use Rattle.plain_query.specs.declared.joins.JoinFault.TheVariants as join
 use Rattle.plain_query.specs.declared.queries.QueryFault.{QueryFault}

@@ -3,17 +3,16 @@ ghost use Rattle.std.specs.List.{list_all};
 ghost use Rattle.lake_model.specs.Evaluation as spec;
 ghost use Rattle.lake_model.specs.Listing.{SameBag};
 ghost use Rattle.lake_model.specs.Query.{shown, shown_fits, answer, answer_fits};
-ghost use Rattle.plain_query.specs.declared.conditions.EvaluationFault.TheVariants as fault;
+ghost use Rattle.row_evaluation.specs.declared.rows.EvaluationFault.TheVariants as fault;
 ghost use Rattle.plain_query.specs.declared.queries.QueryFault.TheVariants as query_fault;
 ghost use Rattle.plain_query.specs.Lists.{all_lent};
 
-use crate::cells::{Cells, value_at};
-use crate::conditions::{EvaluationFault, evaluated, meets, push_value};
 use crate::groups::groups;
 use crate::orders::ordered_rows;
 use crate::queries::QueryFault;
 use lake_model::{BoundExpr, Query};
 use lake_values::{NoMemory, Row, Rows};
+use row_evaluation::{Cells, EvaluationFault, evaluated, meets, push_value, value_at};
 use std::alloc::Global;
 
 /// The rows on which all conditions are true. Each condition is evaluated on each row.
@@ -71,7 +70,7 @@ fn columns_of(alloc: Global, places: &[u32], row: &Row) -> Result<Row, NoMemory>
 {
     let mut values = Vec::with_capacity(alloc, places.len())?;
     for place in places {
-        push_value(&mut values, value_at(row, *place))?;
+        push_value(alloc, &mut values, value_at(row, *place))?;
     }
     Ok(Row::from_values(values))
 }

@@ -1,10 +1,10 @@
 //! Rows are read here from short texts: values with spaces between them, a quote in front of texts, and ` / ` between
 //! the rows.
 
-use crate::conditions::EvaluationFault;
 use crate::groups::groups;
 use lake_model::{ArithOp, BoundAgg, BoundExpr};
 use lake_values::{Row, Text, Value};
+use row_evaluation::EvaluationFault;
 use sqlite_items::Boxed;
 use std::alloc::Global;
 use std::process::Abort;

@@ -4,15 +4,13 @@ ghost use Rattle.std.specs.List.Sorted.{IsSortedByKey};
 ghost use Rattle.lake_values.specs.Order.{row_cmp};
 ghost use Rattle.lake_model.specs.Groups as spec;
 ghost use Rattle.lake_model.specs.Listing.{SameBag};
-ghost use Rattle.plain_query.specs.declared.conditions.EvaluationFault.TheVariants as fault;
+ghost use Rattle.row_evaluation.specs.declared.rows.EvaluationFault.TheVariants as fault;
 ghost use Rattle.plain_query.specs.Keys.{differ_in};
 
 use crate::aggregates::aggregate;
-use crate::cells::{Cells, value_at};
-use crate::conditions::EvaluationFault;
-use crate::lending::compare_lent;
 use lake_model::BoundAgg;
-use lake_values::{NoMemory, Row, Value};
+use lake_values::{NoMemory, Row, Value, compare_lent};
+use row_evaluation::{Cells, EvaluationFault, push_value, value_at};
 use std::alloc::Global;
 use std::cmp::Ordering;
 
@@ -47,7 +45,7 @@ fn one_group<C: Cells>(
 {
     let mut made = Vec::with_capacity(alloc, 1)?;
     let key = Vec::with_capacity(alloc, aggs.len())?;
-    made.push(group_row(key, aggs, rows)?)?;
+    made.push(group_row(alloc, key, aggs, rows)?)?;
     Ok(made)
 }
 
@@ -93,7 +91,7 @@ fn groups_of_sorted<C: Cells>(
     while let Some(first) = rest.first() {
         let (group, behind) = rest.split_at(run_length(keys, first, rest));
         let key = key_of(alloc, keys, first)?;
-        made.push(group_row(key, aggs, group)?)?;
+        made.push(group_row(alloc, key, aggs, group)?)?;
         rest = behind;
     }
     Ok(made)
@@ -117,13 +115,14 @@ fn key_of<C: Cells>(alloc: Global, columns: &[u32], cells: &C) -> Result<Vec<Val
 {
     let mut key = Vec::with_capacity(alloc, columns.len())?;
     for column in columns {
-        key.push(value_at(cells, *column).to_value()?)?;
+        push_value(alloc, &mut key, value_at(cells, *column))?;
     }
     Ok(key)
 }
 
 /// The row of a group: its key, and behind it its aggregates.
 fn group_row<C: Cells>(
+    alloc: Global,
     key: Vec<Value>,
     aggs: &[BoundAgg],
     rows: &[C],
@@ -134,7 +133,7 @@ fn group_row<C: Cells>(
 {
     let mut values = key;
     for agg in aggs {
-        values.push(aggregate(agg, rows)?)?;
+        values.push(aggregate(alloc, agg, rows)?)?;
     }
     Ok(Row::from_values(values))
 }

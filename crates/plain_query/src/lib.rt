@@ -4,21 +4,14 @@
 
 mod aggregates;
 mod answers;
-mod cells;
-mod conditions;
-mod evaluation;
 #[cfg(test)]
 mod group_tests;
 mod groups;
 mod joins;
-mod lending;
 mod orders;
 mod queries;
 mod stages;
 
-pub use cells::{Beside, Cells, Standing};
-pub use conditions::{EvaluationFault, evaluated, is_matched};
-pub use lending::{Lent, Overflow, lend};
 pub use queries::{QueryFault, plain};
 
 #[cfg(test)]

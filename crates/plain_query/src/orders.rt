@@ -1,38 +1,20 @@
 ghost use Rattle.std.specs.Prelude.{◌≡◌, IfOk, OnOk};
-ghost use Rattle.lake_values.specs.Order.{value_cmp};
-ghost use Rattle.lake_model.specs.Evaluation.{value_at};
 ghost use Rattle.lake_model.specs.Listing.{ordered};
-ghost use Rattle.lake_model.specs.Query.{key_cmp, order_cmp, limited};
+ghost use Rattle.lake_model.specs.Query.{order_cmp, limited};
 
-use crate::cells::value_at;
-use crate::lending::compare_lent;
 use lake_model::Key;
 use lake_values::{NoMemory, Row, Rows};
+use row_evaluation::compare_by_keys;
 use std::cmp::Ordering;
-
-/// The order of two rows by one key.
-fn compare_by_key(key: Key, a: &Row, b: &Row) -> Ordering
-    ensures { result ≡ key_cmp key a.now b.now }
-{
-    let order = compare_lent(value_at(a, key.column), value_at(b, key.column));
-    if key.descending {
-        order.reverse()
-    } else {
-        order
-    }
-}
 
 /// The order of two rows by the keys, and then by the whole row.
 fn compare_by(keys: &[Key], a: &Row, b: &Row) -> Ordering
     ensures { result ≡ order_cmp keys.now a.now b.now }
 {
-    for key in keys {
-        let order = compare_by_key(*key, a, b);
-        if order != Ordering::Equal {
-            return order;
-        }
+    match compare_by_keys(keys, a, b) {
+        Ordering::Equal => a.cmp(b),
+        order => order,
     }
-    a.cmp(b)
 }
 
 /// Puts the rows in order.

@@ -1,6 +1,8 @@
 use super::*;
 use lake_model::{Expr, Item, Statement, Step};
+use sql_tokens::{BadToken, script_bad};
 use std::alloc::{AllocError, Global};
+use std::process::Abort;
 use std::test::Fail;
 
 fn refusal(alloc: Global, bytes: &[u8]) -> Result<Option<ScriptBad>, Fail> {
@@ -34,7 +36,7 @@ const LIMIT: ParseKind = ParseKind::Limit;
 const BIG: ParseKind = ParseKind::BigNumber;
 
 /// Bytes that are no script, and the first place that is wrong.
-const REFUSED: [(&str, u32, u32, ParseKind); 29] = [
+const REFUSED: [(&str, u32, u32, ParseKind); 31] = [
     ("SELECT 1;", 1, 9, SYNTAX),
     ("SELECT COUNT(*) FROM t JOIN u ON t.a = u.a;", 1, 24, SYNTAX),
     (
@@ -60,6 +62,9 @@ const REFUSED: [(&str, u32, u32, ParseKind); 29] = [
     ("SELECT FROM ?", 1, 8, SYNTAX),
     // bytes that are no token where a token is wanted
     ("SELECT * FROM ?", 1, 15, ParseKind::BadChar),
+    ("SELECT * FROM 'x", 1, 15, ParseKind::OpenText),
+    // a second name, behind which no version stands
+    ("SELECT * FROM t AT VERSION 2;", 1, 20, SYNTAX),
     ("SELECT * FROM t", 1, 16, SYNTAX),
     ("SELECT * FROM t -- no end\n", 2, 1, SYNTAX),
     ("BEGIN;", 1, 1, SYNTAX),
@@ -116,6 +121,10 @@ fn scripts_are_read(rt: HostRuntime) -> Result<(), Fail> {
         ("SELECT a FROM t at;", 1),
         ("SELECT at.version FROM version at;", 1),
         ("SELECT 1 - -9223372036854775808 FROM t;", 1),
+        (
+            "DELETE FROM t WHERE a = 9223372036854775807 OR a = -9223372036854775807;",
+            1,
+        ),
     ] {
         let script = parse_script(alloc, text.as_bytes())
             .ok()
@@ -125,56 +134,157 @@ fn scripts_are_read(rt: HostRuntime) -> Result<(), Fail> {
     Ok(())
 }
 
+/// Whether a refusal stands at a place of the bytes, or behind it.
+fn is_from(bad: &ScriptBad, bytes: &[u8], place: usize) -> bool {
+    let kind = bad.kind;
+    let place = place.min(bytes.len()) as u64;
+    let first = script_bad(bytes, BadToken { place, kind });
+    bad.line > first.line || bad.line == first.line && bad.column >= first.column
+}
+
 #[test]
-fn each_front_of_a_script_is_refused_or_a_script(rt: HostRuntime) -> Result<(), Fail> {
+fn each_front_of_a_script_is_a_script_or_refused_in_its_last_word(
+    rt: HostRuntime,
+) -> Result<(), Fail> {
     let alloc = rt.alloc();
-    for length in 0..LONG.len() {
+    let mut last_word = 0;
+    for (length, byte) in LONG.as_bytes().iter().enumerate() {
         let front = LONG.as_bytes().split_at(length).0;
         if let Some(bad) = refusal(alloc, front)? {
             // a front may end in a text or between the bytes of a sign
             let kinds = [SYNTAX, ParseKind::OpenText, ParseKind::BadChar];
             assert!(rt; kinds.contains(&bad.kind), "{length}");
+            assert!(rt; is_from(&bad, front, last_word), "{length}");
         }
+        if byte.is_ascii_whitespace() {
+            last_word = length + 1;
+        }
+    }
+    Ok(())
+}
+
+/// A script with so many members is none too long. One member more is refused at this line and column.
+fn check_most(
+    rt: &impl Abort,
+    alloc: Global,
+    (front, piece, most, back): (&str, &str, usize, &str),
+    wanted: ScriptBad,
+) -> Result<(), Fail> {
+    let longest = repeated(alloc, front, piece, most, back)?;
+    assert_eq!(rt; refusal(alloc, longest.as_bytes())?, None, "{front}");
+    let beyond = repeated(alloc, front, piece, most.saturating_add(1), back)?;
+    assert_eq!(rt; refusal(alloc, beyond.as_bytes())?, Some(wanted), "{front}");
+    Ok(())
+}
+
+#[test]
+fn words_too_long_are_refused_where_they_begin(rt: HostRuntime) -> Result<(), Fail> {
+    let line = 2;
+    for (script, column, kind) in [
+        (
+            ("DELETE FROM t;\nDELETE FROM ", "n", 64, ";"),
+            13,
+            ParseKind::LongName,
+        ),
+        (
+            ("INSERT INTO t VALUES\n(1, '", "''", 4096, "');"),
+            5,
+            ParseKind::LongText,
+        ),
+    ] {
+        check_most(&rt, rt.alloc(), script, ScriptBad { line, column, kind })?;
     }
     Ok(())
 }
 
 #[test]
 fn limits(rt: HostRuntime) -> Result<(), Fail> {
-    let alloc = rt.alloc();
+    let (line, kind) = (1, LIMIT);
     // what stands before and behind so many members, and where the first member that is one too many stands
-    for (front, piece, most, back, column) in [
-        ("CREATE TABLE t (a INT", ",a INT", 63, ");", 401),
-        ("SELECT a", ",a", 63, " FROM t;", 136),
-        ("SELECT a FROM t ORDER BY a", ",a", 63, ";", 154),
-        ("SELECT a FROM t GROUP BY a", ",a", 63, ";", 154),
-        ("UPDATE t SET a=1", ",a=1", 63, ";", 270),
-        ("INSERT INTO t VALUES (1", ",1", 63, ");", 151),
-        ("SELECT a FROM t", " JOIN t ON a=b", 3, ";", 59),
-        ("SELECT a FROM t WHERE ", "(", 100, "", 123),
-        ("SELECT a FROM t WHERE ", "NOT ", 100, "a=1;", 423),
-        ("SELECT a", "+a", 1000, " FROM t;", 2009),
+    for (script, column) in [
+        (("CREATE TABLE t (a INT", ",a INT", 63, ");"), 401),
+        (("SELECT a", ",a", 63, " FROM t;"), 136),
+        (("SELECT a FROM t ORDER BY a", ",a", 63, ";"), 154),
+        (("SELECT a FROM t GROUP BY a", ",a", 63, ";"), 154),
+        (("UPDATE t SET a=1", ",a=1", 63, ";"), 270),
+        (("INSERT INTO t VALUES (1", ",1", 63, ");"), 151),
+        (("SELECT a FROM t", " JOIN t ON a=b", 3, ";"), 59),
+        (("SELECT a FROM t", " INNER JOIN t ON a=b", 3, ";"), 77),
+        (("SELECT a FROM t WHERE ", "NOT ", 100, "a=1;"), 423),
+        (("SELECT a", "+a", 1000, " FROM t;"), 2009),
+        // the `-` of a literal is no operator, and the NOT of IS NOT NULL is one
+        (("SELECT a", "*-1", 1000, " FROM t;"), 3009),
+        (
+            (
+                "DELETE FROM t WHERE a IS NOT NULL",
+                " OR a IS NULL",
+                499,
+                ";",
+            ),
+            6522,
+        ),
+        (("DELETE FROM t WHERE a=1", " AND NOT a=1", 333, ";"), 4021),
     ] {
-        let at_limit = repeated(alloc, front, piece, most, back)?;
-        let beyond = repeated(alloc, front, piece, most + 1, back)?;
-        let wanted = ScriptBad {
-            line: 1,
-            column,
-            kind: LIMIT,
-        };
-        let is_limit = refusal(alloc, at_limit.as_bytes())?.is_some_and(|bad| bad.kind == LIMIT);
-        assert!(rt; !is_limit, "{front}");
-        assert_eq!(rt; refusal(alloc, beyond.as_bytes())?, Some(wanted), "{front}");
+        check_most(&rt, rt.alloc(), script, ScriptBad { line, column, kind })?;
     }
-    // behind 64 items a comma may stand, and what begins no item is refused as such
-    let items = repeated(alloc, "SELECT a", ",a", 63, ", FROM t;")?;
-    let kind = refusal(alloc, items.as_bytes())?.map(|bad| bad.kind);
-    assert_eq!(rt; kind, Some(SYNTAX));
-    // each expression has operators of its own, and a list of tuples has no end
-    let items = repeated(alloc, "SELECT a", "+a", 1000, ",a+a FROM t;")?;
-    assert_eq!(rt; refusal(alloc, items.as_bytes())?, None);
-    let tuples = repeated(alloc, "INSERT INTO t VALUES (1)", ",(1)", 1000, ";")?;
-    assert_eq!(rt; refusal(alloc, tuples.as_bytes())?, None);
+    Ok(())
+}
+
+#[test]
+fn what_stands_at_a_limit(rt: HostRuntime) -> Result<(), Fail> {
+    let alloc = rt.alloc();
+    for (front, piece, count, back, wanted) in [
+        // behind 64 members a comma may stand, and what begins no member is refused as such
+        ("SELECT a", ",a", 63, ", FROM t;", Some(SYNTAX)),
+        (
+            "INSERT INTO t VALUES (1",
+            ",1",
+            63,
+            ",9223372036854775808);",
+            Some(BIG),
+        ),
+        (
+            "INSERT INTO t VALUES (1",
+            ",1",
+            63,
+            ",'x",
+            Some(ParseKind::OpenText),
+        ),
+        // no second comparison may stand, whatever the number of operators
+        ("DELETE FROM t WHERE a", "+a", 999, "=a=a;", Some(SYNTAX)),
+        // each expression has operators of its own, and a list of tuples has no end
+        ("SELECT a", "+a", 1000, ",a+a FROM t;", None),
+        ("INSERT INTO t VALUES (1)", ",(1)", 1000, ";", None),
+        // of parentheses side by side, one stands round a token
+        ("SELECT (a)", "+(a)", 1000, " FROM t;", None),
+    ] {
+        let text = repeated(alloc, front, piece, count, back)?;
+        let kind = refusal(alloc, text.as_bytes())?.map(|bad| bad.kind);
+        assert_eq!(rt; kind, wanted, "{back}");
+    }
+    Ok(())
+}
+
+/// A test within so many NOTs and parentheses.
+fn nested(alloc: Global, nots: usize, parentheses: usize) -> Result<String, AllocError> {
+    let front = repeated(alloc, "DELETE FROM t WHERE ", "NOT ", nots, "")?;
+    let opened = repeated(alloc, front.as_str(), "(", parentheses, "a IS NOT NULL")?;
+    repeated(alloc, opened.as_str(), ")", parentheses, ";")
+}
+
+#[test]
+fn a_hundred_levels_may_stand_round_a_token(rt: HostRuntime) -> Result<(), Fail> {
+    let alloc = rt.alloc();
+    for (nots, parentheses) in [(0, 100), (100, 0), (40, 60)] {
+        let text = nested(alloc, nots, parentheses)?;
+        assert_eq!(rt; refusal(alloc, text.as_bytes())?, None, "{nots}");
+    }
+    let (line, kind) = (1, LIMIT);
+    for (nots, parentheses, column) in [(0, 101, 121), (101, 0, 421), (40, 61, 241)] {
+        let text = nested(alloc, nots, parentheses)?;
+        let wanted = ScriptBad { line, column, kind };
+        assert_eq!(rt; refusal(alloc, text.as_bytes())?, Some(wanted), "{nots}");
+    }
     Ok(())
 }
 

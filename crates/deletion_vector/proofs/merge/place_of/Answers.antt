@@ -1,4 +1,4 @@
-use Rattle.deletion_vector.proofs.Ascending.{placed, present, absent}
+use Rattle.deletion_vector.proofs.Ascending.{placed, present, absent, inside}
 use Rattle.deletion_vector.proofs.merge.place_of.Goals as goal
 
 pub returns-clause-found : goal.returns-clause-found
@@ -12,3 +12,6 @@ returns-clause-above c = (absent c.args.position c.args.positions.now c.binary_s
 
 pub returns-clause-place : goal.returns-clause-place
 returns-clause-place c = present c.args.position c.args.positions.now c.binary_search.result c.requires c.binary_search.ensures.position
+
+pub returns-clause-inside : goal.returns-clause-inside
+returns-clause-inside c = inside c.args.position c.args.positions.now c.binary_search.result c.requires c.binary_search.ensures.position

@@ -5,7 +5,7 @@ use Rattle.lake_model.specs.declared.replies.Refusal.{Refusal}
 use Rattle.lake_model.specs.declared.statements.Statement.{Statement}
 use Rattle.lake_model.specs.Binding.{bound}
 use Rattle.lake_model.specs.Scopes.{TableSchemas}
-use Rattle.lake_model.specs.Versions.{Version}
+use Rattle.lake_model.specs.Versions.{Tables}
 use Rattle.lake_model.specs.Writing.{effect_if_bound, effect_of, result_over, schemas_of}
 use Rattle.plain_query.proofs.Ready.{bound_ready}
 use Rattle.std.specs.Prelude.{Result}
@@ -19,17 +19,17 @@ use Rattle.lake_script.specs.Tables.{seen}
 use Rattle.lake_script.proofs.effects.run_over.Goals as goal
 
 -- what binding answers decides what the statement does
-over_bound : (x : Statement) (schemas : TableSchemas) (version : Version) (answer : Result Bound Refusal) → schemas ≡ schemas_of version → bound x schemas ≡ answer → result_over version 1 x ≡ effect_if_bound answer version 1
+over_bound : (x : Statement) (schemas : TableSchemas) (version : Tables) (answer : Result Bound Refusal) → schemas ≡ schemas_of version → bound x schemas ≡ answer → result_over version 1 x ≡ effect_if_bound answer version 1
 over_bound x schemas version answer same is = ap (λ (b : Result Bound Refusal). effect_if_bound b version 1) (ap (bound x) (sym same) ∙ is)
 
 -- a refusal is handed on
 
-binding_refused : (x : Statement) (schemas : TableSchemas) (version : Version) (fault : BindFault) → schemas ≡ schemas_of version →
+binding_refused : (x : Statement) (schemas : TableSchemas) (version : Tables) (fault : BindFault) → schemas ≡ schemas_of version →
     judging.IfRefused {X = Bound} (Err fault) (λ cause. bound x schemas ≡ Err cause) → IfRefused {X = Bound} (Err (of_binding fault)) (λ cause. result_over version 1 x ≡ Err cause)
 binding_refused x schemas version (binding.Refused cause) same is = over_bound x schemas version (Err cause) same is
 binding_refused x schemas version binding.NoMemory same is = tt
 
-effect_refused : (x : Statement) (schemas : TableSchemas) (version : Version) (form : Bound) (fault : EffectFault) → schemas ≡ schemas_of version → bound x schemas ≡ Ok form →
+effect_refused : (x : Statement) (schemas : TableSchemas) (version : Tables) (form : Bound) (fault : EffectFault) → schemas ≡ schemas_of version → bound x schemas ≡ Ok form →
     IfRefused {X = Bound} (Err fault) (λ cause. effect_of form version 1 ≡ Err cause) → IfRefused {X = Bound} (Err fault) (λ cause. result_over version 1 x ≡ Err cause)
 effect_refused x schemas version form (Refused cause) same is_bound is = over_bound x schemas version (Ok form) same is_bound ∙ is
 effect_refused x schemas version form NoMemory same is_bound is = tt

@@ -43,10 +43,25 @@ returns-clause-legal c = (
 pub returns-clause-follows : goal.returns-clause-follows
 returns-clause-follows c = record {
   runs = (
-    record { row = inl refl; answers = (refl, ((refl, refl), refl), tt) },
+    record { row = inl refl; answers = (record { session = refl; right = ((refl, refl), refl); ends = tt }, tt) },
     (
-      record { row = inr (inr (inr (inl refl))); answers = (refl, refl, (refl, (refl, refl), (refl, (refl, refl), tt))) },
-      (record { row = inr (inr (inl refl)); answers = (refl, refl, (refl, (refl, query_result), (refl, (refl, refl), tt))) }, tt),
+      record {
+        row = inr (inr (inr (inl refl)));
+        answers = (
+          record { session = refl; right = refl; ends = tt },
+          (record { session = refl; right = (refl, refl); ends = tt }, (record { session = refl; right = refl; ends = tt }, tt)),
+        );
+      },
+      (
+        record {
+          row = inr (inr (inl refl));
+          answers = (
+            record { session = refl; right = refl; ends = tt },
+            (record { session = refl; right = (refl, query_result); ends = tt }, (record { session = refl; right = refl; ends = tt }, tt)),
+          );
+        },
+        tt,
+      ),
     ),
   );
   no_others = (inl refl, (inr (inl refl), (inr (inl refl), (inr (inl refl), (inr (inr (inl refl)), (inr (inr (inl refl)), (inr (inr (inl refl)), tt)))))));
@@ -66,7 +81,7 @@ three_rows : row_count (result_over seen 1 (Select (query_of (codes "t")))) ≡ 
 three_rows two = let three : row_count (result_over seen 1 (Select (query_of (codes "t")))) ≡ 3 = ap row_count query_result in absurd (omega (arith, two, three))
 
 pub returns-clause-row_left_out : goal.returns-clause-row_left_out
-returns-clause-row_left_out c = λ f. three_rows (ap row_count f.runs.1.1.0.answers.2.1.1)
+returns-clause-row_left_out c = λ f. three_rows (ap row_count f.runs.1.1.0.answers.1.0.right.1)
 
 pub returns-clause-unended : goal.returns-clause-unended
 unfolding script_of most_levels scan scan_behind keyword_of word number closed_text text session double_sign single_sign sign_front front gap literal reference parenthesized factor binary_op product sum null_check tested test negated negation conjunction disjunction expression where_clause column_type column columns distribution create tuple insert alias counted_rows count argument aggregate item second_name source same join group_clause items head grouped ungrouped joins body_behind_aggregate body order_by direction order_key order_clause limit_clause tail select set update delete statement line lines script

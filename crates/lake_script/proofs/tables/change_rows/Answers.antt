@@ -2,7 +2,7 @@ use Rattle.std.proofs.Common.{◌≡◌, ℕ, List, ◌⊎◌, inl, inr, map, re
 use Rattle.lake_model.specs.declared.bound.Bound.{Bound}
 use Rattle.lake_model.specs.declared.bound.Bound.TheVariants.{Select, Insert, Update, Delete, Named}
 use Rattle.lake_model.specs.declared.bound.BoundExpr.{BoundExpr}
-use Rattle.lake_model.specs.Versions.{Version}
+use Rattle.lake_model.specs.Versions.{Tables}
 use Rattle.lake_script.specs.declared.tables.Kept.{Kept}
 use Rattle.lake_script.specs.Tables.{changed_at, is_gone, marked_as, rows_after, rows_left, seen, with_more, without_gone}
 use Rattle.lake_script.proofs.Places.{changed_twice}
@@ -12,7 +12,7 @@ use Rattle.lake_script.proofs.tables.change_rows.Goals.{in_default, in-Update2}
 -- a statement that removes rows, and another
 
 removed : (form : Bound) (guards computed : List BoundExpr) → ((table : List ℕ) × (items : List BoundExpr) × (column : ℕ) × (form ≡ Update table guards computed items column)) ⊎ ((table : List ℕ) × (form ≡ Delete table guards computed)) →
-    (more : List Kept) (place : ℕ) (version : Version) → changed_at (with_more more) place (changed_at (without_gone (is_gone guards computed)) place version) ≡ changed_at (rows_after form more) place version
+    (more : List Kept) (place : ℕ) (version : Tables) → changed_at (with_more more) place (changed_at (without_gone (is_gone guards computed)) place version) ≡ changed_at (rows_after form more) place version
 removed form guards computed (inl (table, items, column, e)) more place version =
     changed_twice (without_gone (is_gone guards computed)) (with_more more) (rows_after form more) (λ t. ap (λ (f : Bound). rows_left f t ++ map (marked_as t.name) more) (sym e)) place version
 removed form guards computed (inr (table, e)) more place version =
@@ -20,7 +20,7 @@ removed form guards computed (inr (table, e)) more place version =
 
 only_added : (form : Bound) → ((table : List ℕ) (guards computed items : List BoundExpr) (column : ℕ) → form ≡ Update table guards computed items column → ⊥) →
     ((table : List ℕ) (guards computed : List BoundExpr) → form ≡ Delete table guards computed → ⊥) →
-    (more : List Kept) (place : ℕ) (version : Version) → changed_at (with_more more) place version ≡ changed_at (rows_after form more) place version
+    (more : List Kept) (place : ℕ) (version : Tables) → changed_at (with_more more) place version ≡ changed_at (rows_after form more) place version
 only_added (Select q) no_update no_delete more place version = refl
 only_added (Insert table rows column) no_update no_delete more place version = refl
 only_added (Update table guards computed items column) no_update no_delete more place version = absurd (no_update table guards computed items column refl)

@@ -6,6 +6,7 @@ use Rattle.plain_query.proofs.aggregates.extreme_of.Goals as goal
 pub loop-row-preserved : goal.loop-row-preserved
 loop-row-preserved g c =
     let seen = c.in_ok-look.ensures.seen in (
-      joined_past g.C.Cells.cells c.args.argument.now c.args.rows.now c.loop-row.row-index c.row-item.result c.loop-row-test.true c.row-item.is (kept_by c.args.extreme) (kept_swaps c.args.extreme) _ _ _ seen.value c.of_both-kept.ensures ∙ c.loop-row.invariant.0,
-      fits_past g.C.Cells.cells c.args.argument.now c.args.rows.now c.loop-row.row-index c.row-item.result c.loop-row-test.true c.row-item.is seen.fits ∙ c.loop-row.invariant.1,
+      c.of_both-kept.ensures.short,
+      joined_past g.C.Cells.cells c.args.argument.now c.args.rows.now c.loop-row.row-index c.row-item.result c.loop-row-test.true c.row-item.is (kept_by c.args.extreme) (kept_swaps c.args.extreme) _ _ _ seen.value c.of_both-kept.ensures.value ∙ c.loop-row.invariant.1,
+      fits_past g.C.Cells.cells c.args.argument.now c.args.rows.now c.loop-row.row-index c.row-item.result c.loop-row-test.true c.row-item.is seen.fits ∙ c.loop-row.invariant.2,
     )

@@ -1,7 +1,7 @@
 use Rattle.std.proofs.Common.{◌≡◌, map, drop}
 use Rattle.lake_model.specs.Groups as spec
 use Rattle.plain_query.specs.Aggregates.{kept_by}
-use Rattle.plain_query.specs.Lending.{owned}
+use Rattle.lake_values.specs.Lending.{owned, IsShort}
 use Rattle.plain_query.proofs.aggregates.extreme_of.Given as goal
 
 abbrev pub invariant-loop-row : goal.invariant-loop-row
@@ -9,5 +9,6 @@ invariant-loop-row g l =
     let rows = map g.C.Cells.cells l.rows in
     let rest = map g.C.Cells.cells (drop l.row-index l.rows) in
     let op = kept_by l.extreme in
-    (spec.joined_by op (owned l.kept) (spec.summary op (spec.values_on l.argument rest)) ≡ spec.summary op (spec.values_on l.argument rows))
+    IsShort l.kept
+    × (spec.joined_by op (owned l.kept) (spec.summary op (spec.values_on l.argument rest)) ≡ spec.summary op (spec.values_on l.argument rows))
     × (spec.argument_fits rest l.argument ≡ spec.argument_fits rows l.argument)

@@ -1,7 +1,7 @@
 use Rattle.std.proofs.Common.{◌≡◌, ◌*◌, ◌^◌, ◌≤ℤ◌, ◌+ℤ◌, pos, map, drop}
 use Rattle.lake_values.specs.Order.{number_of}
 use Rattle.lake_model.specs.Groups as spec
-use Rattle.plain_query.specs.Aggregates.{totalled}
+use Rattle.plain_query.specs.Aggregates.{totalled, IsShortTotal}
 use Rattle.plain_query.proofs.aggregates.total_of.Given as goal
 
 abbrev pub invariant-loop-row : goal.invariant-loop-row
@@ -10,7 +10,8 @@ invariant-loop-row g l =
     let rest = map g.C.Cells.cells (drop l.row-index l.rows) in
     let op = spec.sum_of_both in
     let total = totalled l.total in
-    (number_of total ≤ℤ pos (l.row-index * 2 ^ 63))
+    IsShortTotal l.total
+    × (number_of total ≤ℤ pos (l.row-index * 2 ^ 63))
     × (pos 0 ≤ℤ (number_of total +ℤ pos (l.row-index * 2 ^ 63)))
     × (spec.joined_by op total (spec.summary op (spec.values_on l.argument rest)) ≡ spec.summary op (spec.values_on l.argument rows))
     × (spec.argument_fits rest l.argument ≡ spec.argument_fits rows l.argument)

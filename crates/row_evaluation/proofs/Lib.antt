@@ -1,0 +1,4 @@
+pub mod Filters
+pub mod Limits
+pub mod Loops
+pub mod Parts
