@@ -12,7 +12,7 @@ pub use evaluation::{eval, holds};
 pub use faults::OpFault;
 pub use filters::filter;
 pub use orders::top;
-pub use packet_rows::PacketRow;
+pub use packet_rows::{PacketRow, put_rows, rows_of};
 pub use projections::project;
 
 #[cfg(test)]

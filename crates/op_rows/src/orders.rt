@@ -1,12 +1,11 @@
 ghost use Rattle.std.specs.Prelude.{◌≡◌, IfOk, IsPermutation};
-ghost use Rattle.lake_values.specs.Order.{row_cmp};
 ghost use Rattle.lake_model.specs.Listing.{ordered};
 ghost use Rattle.lake_model.specs.Query.{order_cmp, limited};
 ghost use Rattle.row_packet.specs.Packets.{HaveWidth};
 
-use crate::packet_rows::PacketRow;
+use crate::packet_rows::{PacketRow, rows_of};
 use lake_model::Key;
-use lake_values::{NoMemory, compare_lent};
+use lake_values::NoMemory;
 use row_evaluation::compare_by_keys;
 use row_packet::{Packet, PacketView};
 use std::alloc::Global;
@@ -30,7 +29,7 @@ pub fn top(
 /// The rows in the order of the keys, and then of the whole row.
 fn ordered_rows<'a>(
     alloc: Global,
-    packet: &'a PacketView<'a>,
+    packet: &PacketView<'a>,
     keys: &[Key],
 ) -> Result<Vec<PacketRow<'a>>, NoMemory>
     ensures ordered { IfOk result (λ rows. rows.items ≡ ordered (order_cmp keys.now) packet.now.rows) }
@@ -54,38 +53,14 @@ fn within<'s, 'a>(limit: Option<u64>, rows: &'s [PacketRow<'a>]) -> &'s [PacketR
     rows.split_at(limit as usize).0
 }
 
-/// The rows of a packet, lent.
-fn rows_of<'a>(alloc: Global, packet: &'a PacketView<'a>) -> Result<Vec<PacketRow<'a>>, NoMemory>
-    ensures { IfOk result (λ rows. rows.items ≡ packet.now.rows) }
-{
-    let mut rows = Vec::with_capacity(alloc, packet.rows() as usize)?;
-    for place in 0..packet.rows() {
-        rows.push(PacketRow::at(packet, place))?;
-    }
-    Ok(rows)
-}
-
 /// The order of two rows by the keys, and then by the whole row.
 fn compare_by(keys: &[Key], a: &PacketRow<'_>, b: &PacketRow<'_>) -> Ordering
     ensures { result ≡ order_cmp keys.now a.now b.now }
 {
     match compare_by_keys(keys, a, b) {
-        Ordering::Equal => compare_rows(a, b),
+        Ordering::Equal => a.compare(b),
         order => order,
     }
-}
-
-/// The order of rows: by the first column in which they differ.
-fn compare_rows(a: &PacketRow<'_>, b: &PacketRow<'_>) -> Ordering
-    ensures { result ≡ row_cmp a.now b.now }
-{
-    for column in 0..a.width().min(b.width()) {
-        let order = compare_lent(a.value(column), b.value(column));
-        if order.is_ne() {
-            return order;
-        }
-    }
-    a.width().cmp(&b.width())
 }
 
 /// A packet of equal rows.

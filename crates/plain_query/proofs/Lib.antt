@@ -1,5 +1,4 @@
 pub mod Grouping
-pub mod Joining
 pub mod Ordered
 pub mod Ready
 pub mod Runs

@@ -1,4 +1,3 @@
-pub mod Aggregates
 pub mod Databases
 pub mod Faults
 pub mod Keys

@@ -7,10 +7,9 @@ ghost use Rattle.lake_model.specs.Listing.{SameBag};
 ghost use Rattle.row_evaluation.specs.declared.rows.EvaluationFault.TheVariants as fault;
 ghost use Rattle.plain_query.specs.Keys.{differ_in};
 
-use crate::aggregates::aggregate;
 use lake_model::BoundAgg;
-use lake_values::{NoMemory, Row, Value, compare_lent};
-use row_evaluation::{Cells, EvaluationFault, push_value, value_at};
+use lake_values::{Row, Value, compare_lent};
+use row_evaluation::{Cells, EvaluationFault, aggregate, key_of, references, value_at};
 use std::alloc::Global;
 use std::cmp::Ordering;
 
@@ -47,17 +46,6 @@ fn one_group<C: Cells>(
     let key = Vec::with_capacity(alloc, aggs.len())?;
     made.push(group_row(alloc, key, aggs, rows)?)?;
     Ok(made)
-}
-
-/// The rows by reference, in their order.
-fn references<C: Cells>(alloc: Global, rows: &[C]) -> Result<Vec<&C>, NoMemory>
-    ensures { IfOk result (λ references. map (λ row. C.cells row.now) references.items ≡ map C.cells rows.now) }
-{
-    let mut references = Vec::with_capacity(alloc, rows.len())?;
-    for row in rows {
-        references.push(row)?;
-    }
-    Ok(references)
 }
 
 /// The order of two rows by the columns of a key.
@@ -108,16 +96,6 @@ fn run_length<C: Cells>(keys: &[u32], first: &C, rows: &[C]) -> usize
         }
     }
     rows.len()
-}
-
-fn key_of<C: Cells>(alloc: Global, columns: &[u32], cells: &C) -> Result<Vec<Value>, NoMemory>
-    ensures { IfOk result (λ key. key.items ≡ spec.key_of columns.now (C.cells cells.now)) }
-{
-    let mut key = Vec::with_capacity(alloc, columns.len())?;
-    for column in columns {
-        push_value(alloc, &mut key, value_at(cells, *column))?;
-    }
-    Ok(key)
 }
 
 /// The row of a group: its key, and behind it its aggregates.

@@ -2,7 +2,6 @@
 //! query answers.
 #![tactic(auto)]
 
-mod aggregates;
 mod answers;
 #[cfg(test)]
 mod group_tests;

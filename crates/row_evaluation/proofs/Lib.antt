@@ -1,4 +1,5 @@
 pub mod Filters
+pub mod Folding
 pub mod Limits
 pub mod Loops
 pub mod Parts

@@ -1,3 +1,4 @@
+pub mod Aggregates
 pub mod Cells
 pub mod Conditions
 pub mod Lending

@@ -3,7 +3,7 @@ ghost use Rattle.lake_values.specs.Lending.{owned, IsShort};
 ghost use Rattle.row_packet.specs.Packets.{HaveWidth, row_at, value_at};
 
 use crate::packets::Packet;
-use lake_values::{NoMemory, Row, ValueRef};
+use lake_values::{NoMemory, Row, Value, ValueRef};
 use std::alloc::Global;
 use std::marker::Model;
 
@@ -40,6 +40,16 @@ impl<'a> PacketView<'a> {
         self.width
     }
 
+    /// The values of a row, counted from 0.
+    pub fn values(&self, row: u64) -> &'a [Value]
+        requires { row < length self.now.rows }
+        ensures values { result.now ≡ row_at self.now.rows row }
+        ensures width { length result.now ≡ self.now.width }
+    {
+        let rows = self.rows;
+        rows[row as usize].values()
+    }
+
     /// The value in a column of a row, both counted from 0.
     pub fn value(&self, row: u64, column: u32) -> ValueRef<'a>
         requires row { row < length self.now.rows }
@@ -47,8 +57,7 @@ impl<'a> PacketView<'a> {
         ensures value { owned result ≡ value_at (row_at self.now.rows row) column }
         ensures short { IsShort result }
     {
-        let rows = self.rows;
-        let values = rows[row as usize].values();
+        let values = self.values(row);
         values[column as usize].lend()
     }
 

@@ -1,0 +1,9 @@
+pub mod Distinct
+pub mod Gathering
+pub mod Finals
+pub mod Fitting
+pub mod Kept
+pub mod Leading
+pub mod Made
+pub mod Members
+pub mod Parts

@@ -1,0 +1,5 @@
+pub mod StrikeLemmas
+pub mod StoreLemmas
+pub mod PlaceLemmas
+pub mod HistoryLemmas
+mod RoomLemmas

@@ -1,0 +1,3 @@
+pub mod Strikes
+pub mod Histories
+pub mod Stores
