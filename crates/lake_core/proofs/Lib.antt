@@ -1,0 +1,5 @@
+pub mod OpenLemmas
+pub mod HomeLemmas
+pub mod CommitLemmas
+pub mod RoomLemmas
+pub mod ReserveLemmas

@@ -1,0 +1,5 @@
+pub mod Lakes
+pub mod Facts
+pub mod Opened
+pub mod Rooms
+pub mod Homes

@@ -1,0 +1,135 @@
+-- What a lake keeps of open transactions, and what room is reserved for them.
+use Rattle.std.specs.Prelude.{◌≡◌, ◌≢◌, ◌≤◌, ℕ, zero, suc, ◌+◌, Bool, false, ◌&&◌, List, [], ◌∷◌, ◌++◌, None, Some, map, filter, length, vec_len, is_some, IfSome, if◌then◌else◌, nat_eq}
+use Rattle.std.specs.List.{AllByRecursion, list_any}
+use Rattle.std.specs.Option.{option_map_or}
+use Rattle.lake_model.specs.declared.entries.Change.{Change}
+use Rattle.lake_model.specs.declared.entries.Entry.{Entry}
+use Rattle.lake_model.specs.declared.entries.MarkedRow.{MarkedRow}
+use Rattle.lake_model.specs.Changes.{additions_left, committed, own}
+use Rattle.lake_model.specs.Listing.{SameBag}
+use Rattle.lake_model.specs.State.{State, Transaction, opened_by, version_at}
+use Rattle.lake_model.specs.Versions.{ConflictUnit, whole_table, share_unit}
+use Rattle.write_set_catalog.specs.declared.rows.CatRow.{CatRow}
+use Rattle.write_set_catalog.specs.Rows.{units_of_marks, units_of_row}
+use Rattle.table_history.specs.Histories.{NamesTables, rows_for}
+use Rattle.table_history.specs.Strikes.{IsAscending}
+use Rattle.lake_core.specs.declared.transactions.Open.{Open}
+use Rattle.lake_core.specs.declared.transactions.Room.{Room}
+
+-- the entries of a chronicle, and how many more it has room for
+pub record Recorded : Type 0 where
+  pub entries : List Entry
+  pub spare : ℕ
+
+-- what is kept of a session's transaction
+pub record IsOpen (o : ℕ × Transaction) (open_ : Open) : Type 0 where
+  pub session : open_.session ≡ o.0
+  pub explicit : open_.explicit ≡ o.1.explicit
+  pub number : open_.number ≡ o.1.number
+  pub snapshot : open_.snapshot ≡ o.1.snapshot
+  pub parts : open_.parts ≡ o.1.parts
+  pub removed : SameBag open_.removed.items o.1.pending.removed
+  pub ascending : IsAscending open_.removed.items
+  pub added : open_.added.items ≡ o.1.pending.added
+
+-- what is kept is of the session's transaction
+pub record OpenAt (session : ℕ) (os : List (ℕ × Transaction)) (r : Open) : Type 0 where
+  pub transaction : Transaction
+  pub opened : opened_by session os ≡ Some transaction
+  pub is : IsOpen (session, transaction) r
+
+-- the transactions that are kept are the open ones, in their order
+abbrev pub AreOpen : List (ℕ × Transaction) → List Open → Type 0
+AreOpen [] [] = Unit {0}
+AreOpen (o ∷ os) (r ∷ rs) = IsOpen o r × AreOpen os rs
+AreOpen [] (r ∷ rs) = ⊥
+AreOpen (o ∷ os) [] = ⊥
+
+-- no transaction is the session's
+abbrev pub IsNoSession : ℕ → List Open → Type 0
+IsNoSession session rs = AllByRecursion (λ (r : Open). nat_eq r.session session ≡ false) rs
+
+-- no two transactions are of one session
+abbrev pub HaveOwnSessions : List Open → Type 0
+HaveOwnSessions [] = Unit {0}
+HaveOwnSessions (r ∷ rs) = IsNoSession r.session rs × HaveOwnSessions rs
+
+-- the units of the rows' tables
+abbrev pub units_of_rows : List MarkedRow → List ConflictUnit
+units_of_rows rows = map (λ m. whole_table m.mark.table) rows
+
+-- the catalogue's rows write one of the units
+abbrev pub rows_share : List CatRow → List ConflictUnit → Bool
+rows_share rows us = list_any (λ r. share_unit (units_of_row r) us) rows
+
+-- what a row of the catalogue says, as of this commit
+abbrev pub stamped : ℕ → CatRow → CatRow
+stamped seq r = record r { seq = seq }
+
+-- what is made for the commit of a transaction that removed these rows
+pub record IsRoomFor (removed : List MarkedRow) (room : Room) : Type 0 where
+  pub used : vec_len room.used ≡ length removed
+  pub names : NamesTables room.marks removed
+  pub marks : (us : List ConflictUnit) → share_unit (units_of_marks room.marks) us ≡ share_unit (units_of_rows removed) us
+  pub rows : (us : List ConflictUnit) → rows_share room.rows.items us ≡ share_unit (units_of_rows removed) us
+
+abbrev pub IsReady : Open → Type 0
+IsReady r = IfSome r.room (IsRoomFor r.removed.items)
+
+-- the sum of what the transactions weigh
+abbrev pub total : (Open → ℕ) → List Open → ℕ
+total g [] = 0
+total g (r ∷ rs) = g r + total g rs
+
+-- what is reserved for a transaction: an entry, rows of the catalogue, and rows of a table
+
+abbrev pub entries_for : Open → ℕ
+entries_for r = if is_some r.room then 1 else 0
+
+abbrev pub catalog_rows_for : Open → ℕ
+catalog_rows_for r = option_map_or (λ room. vec_len room.rows) r.room 0
+
+abbrev pub table_rows_for : List ℕ → Open → ℕ
+table_rows_for name r = if is_some r.room then rows_for name r.added.items else 0
+
+-- the sessions for which room is reserved
+abbrev pub rooms_of : List Open → List ℕ
+rooms_of rs = map (λ r. r.session) (filter (λ r. is_some r.room) rs)
+
+-- what is pending after a further statement
+pub record IsPended (old new : Open) (change : Change) : Type 0 where
+  pub session : new.session ≡ old.session
+  pub explicit : new.explicit ≡ old.explicit
+  pub number : new.number ≡ old.number
+  pub snapshot : new.snapshot ≡ old.snapshot
+  pub parts : new.parts ≡ old.parts
+  pub removed : SameBag new.removed.items (old.removed.items ++ committed change.removed)
+  pub ascending : IsAscending new.removed.items
+  pub added : new.added.items ≡ additions_left (own change.removed) old.added.items ++ change.added
+
+-- what the catalogue says of the units that each commit wrote is what the versions say
+pub record IsWritten (st : State) (rows : List CatRow) : Type 0 where
+  pub units : (n : ℕ) (us : List ConflictUnit) → list_any (λ r. nat_eq r.seq n && share_unit (units_of_row r) us) rows ≡ share_unit (version_at st n).wrote us
+  pub within : AllByRecursion (λ r. r.seq + 1 ≤ length st.versions) rows
+
+-- room is reserved for the session
+abbrev pub in_rooms : ℕ → List Open → Bool
+in_rooms session rs = list_any (λ n. nat_eq n session) (rooms_of rs)
+
+-- a transaction for which no room is reserved weighs nothing
+abbrev pub NeedsRoom : (Open → ℕ) → Type 0
+NeedsRoom g = (r : Open) → r.room ≡ None → g r ≡ 0
+
+-- the session has no room any more, every other session has its own, and no more is reserved than before
+pub record LeavesRooms (session : ℕ) (old new : List Open) : Type 0 where
+  pub own : HaveOwnSessions new
+  pub used : in_rooms session new ≡ false
+  pub others : (other : ℕ) → other ≢ session → in_rooms other new ≡ in_rooms other old
+  pub ready : AllByRecursion IsReady old → AllByRecursion IsReady new
+  pub less : (g : Open → ℕ) → NeedsRoom g → total g new ≤ total g old
+
+-- the transactions, with room that is kept for the one at a place
+abbrev pub with_room : Room → List Open → ℕ → List Open
+with_room room [] place = []
+with_room room (r ∷ rs) zero = record r { room = Some room } ∷ rs
+with_room room (r ∷ rs) (suc place) = r ∷ with_room room rs place

@@ -1,0 +1,95 @@
+ghost use Rattle.std.specs.Prelude.{◌≡◌, ◌+◌, ◌<◌, ◌≤◌, ◌^◌, ◌++◌, ◌&&◌, ℕ, List, Some, true, is_some, map, length, vec_len};
+ghost use Rattle.lake_core.specs.Rooms.{IsRoomFor, stamped};
+ghost use Rattle.lake_model.specs.Changes as changes;
+ghost use Rattle.table_history.specs.Histories.{GrowsBy, change_from, has_room, last_of, newest_of, rows_for};
+ghost use Rattle.table_history.specs.Strikes.{IsAscending};
+ghost use Rattle.write_set_catalog.specs.Catalogs.{IsBehind};
+
+use crate::transactions::{Open, Room};
+use lake_model::{Added, MarkedRow};
+use table_history::History;
+use write_set_catalog::{CatRow, Catalog};
+
+/// A transaction that was taken out to be committed, with the room that was reserved for it.
+#[derive(Debug, Drop)]
+pub struct Ready {
+    pub snapshot: u64,
+    /// The committed rows that it removed, in the order of their marks.
+    pub removed: Vec<MarkedRow>,
+    pub added: Vec<Added>,
+    pub room: Room,
+}
+
+impl Ready {
+    pub fn of(transaction: Open) -> Ready
+        requires { is_some transaction.room ≡ true }
+        ensures snapshot { result.snapshot ≡ transaction.snapshot }
+        ensures removed { result.removed ≡ transaction.removed }
+        ensures added { result.added ≡ transaction.added }
+        ensures room { transaction.room ≡ Some result.room }
+    {
+        let Open {
+            snapshot,
+            removed,
+            added,
+            room,
+            ..
+        } = transaction;
+        Ready {
+            snapshot,
+            removed,
+            added,
+            room: room.unwrap(),
+        }
+    }
+
+    /// Whether it changes nothing.
+    pub fn is_unchanged(&self) -> bool
+        ensures { result ≡ (changes.is_nil self.now.removed.items && changes.is_nil self.now.added.items) }
+    {
+        self.removed.is_empty() && self.added.is_empty()
+    }
+}
+
+/// Makes what a transaction changed the next version, and answers its number. It takes no memory.
+pub fn apply(history: &mut History, catalog: &mut Catalog, ready: Ready) -> u64
+    requires ready { IsRoomFor ready.removed.items ready.room }
+    requires ascending { IsAscending ready.removed.items }
+    requires small { last_of history.old + 1 < 2 ^ 62 }
+    requires behind { IsBehind catalog.old.rows (last_of history.old + 1) }
+    requires tables { (name : List ℕ) → has_room history.old.spares name (rows_for name ready.added.items) ≡ true }
+    requires spare { vec_len ready.room.rows ≤ catalog.old.spare }
+    ensures seq { result ≡ last_of history.old + 1 }
+    ensures made { GrowsBy history.old history.new (changes.applied (last_of history.old + 1) (change_from ready.removed.items ready.added.items) (newest_of history.old)) }
+    ensures tables { (name : List ℕ) (rows : ℕ) → has_room history.old.spares name (rows_for name ready.added.items + rows) ≡ true → has_room history.new.spares name rows ≡ true }
+    ensures rows { catalog.new.rows ≡ catalog.old.rows ++ map (stamped (last_of history.old + 1)) ready.room.rows.items }
+    ensures spare { catalog.old.spare ≤ catalog.new.spare + vec_len ready.room.rows }
+{
+    let Ready {
+        removed,
+        added,
+        room,
+        ..
+    } = ready;
+    let Room {
+        mut used,
+        marks,
+        rows,
+    } = room;
+    let seq = history.last() + 1;
+    history.commit(&marks, removed.as_slice(), &mut used, added);
+    record(catalog, seq, rows);
+    seq
+}
+
+/// Says in the catalogue what a commit wrote.
+fn record(catalog: &mut Catalog, seq: u64, rows: Vec<CatRow>)
+    requires behind { IsBehind catalog.old.rows seq }
+    requires spare { vec_len rows ≤ catalog.old.spare }
+    ensures rows { catalog.new.rows ≡ catalog.old.rows ++ map (stamped seq) rows.items }
+    ensures spare { catalog.old.spare ≤ catalog.new.spare + vec_len rows }
+{
+    for row in rows {
+        catalog.append(CatRow { seq, ..row });
+    }
+}

@@ -1,0 +1,18 @@
+//! The core of a lake: its chronicle, its versions and its open transactions. Each call that does something for a session
+//! appends one entry, which the state allows.
+#![tactic(auto)]
+
+mod chronicles;
+mod commits;
+mod entries;
+mod lakes;
+mod opened;
+mod reservations;
+mod rooms;
+mod transactions;
+mod who;
+
+pub use chronicles::Chronicle;
+pub use lakes::LakeState;
+pub use opened::OpenTxn;
+pub use who::Who;

@@ -1,0 +1,113 @@
+//! What is made for the commit of a transaction when room is reserved for it.
+
+ghost use Rattle.std.specs.Prelude.{◌≡◌, ◌==◌, ◌&&◌, ◌||◌, ◌∷◌, [], List, IfOk, OnOk};
+ghost use Rattle.lake_model.specs.Versions.{ConflictUnit, same_text, share_unit, whole_table};
+ghost use Rattle.write_set_catalog.specs.Rows.{units_of_marks, units_of_row};
+ghost use Rattle.lake_core.specs.Rooms.{IsRoomFor, rows_share, units_of_rows};
+
+use crate::transactions::Room;
+use lake_model::{Mark, MarkedRow, Marks};
+use lake_values::{Listed, NoMemory};
+use std::alloc::Global;
+use write_set_catalog::CatRow;
+
+impl Room {
+    /// What the commit of a transaction needs that removed these rows, which stand in the order of their marks.
+    pub fn of(alloc: Global, removed: &[MarkedRow]) -> Result<Room, NoMemory>
+        ensures { IfOk result (λ room. IsRoomFor removed.now room) }
+    {
+        let used = vec![in alloc; 0; removed.len()]?;
+        let marks = marks_of(alloc, removed)?;
+        let rows = rows_of(alloc, removed)?;
+        Ok(Room { used, marks, rows })
+    }
+}
+
+/// A mark of each table that rows are removed from.
+fn marks_of(alloc: Global, removed: &[MarkedRow]) -> Result<Marks, NoMemory>
+    ensures { IfOk result (λ marks. (us : List ConflictUnit) → share_unit (units_of_marks marks) us ≡ share_unit (units_of_rows removed.now) us) }
+{
+    let mut marks = Listed::empty(alloc);
+    for row in removed {
+        put_table(&mut marks, &row.mark)?;
+    }
+    Ok(marks)
+}
+
+/// Puts a mark behind the others, unless the last of them is of the same table.
+fn put_table(marks: &mut Marks, mark: &Mark) -> Result<(), NoMemory>
+    ensures { OnOk result ((us : List ConflictUnit) → share_unit (units_of_marks marks.new) us
+        ≡ (share_unit (units_of_marks marks.old) us || share_unit (whole_table mark.now.table ∷ []) us)) }
+{
+    match marks.as_slice().last() {
+        Some(last) if last.table == mark.table => Ok(()),
+        _ => marks.push(copy_mark(mark)?),
+    }
+}
+
+/// What the catalogue is to say of each table that rows are removed from. The commit sets its number.
+fn rows_of(alloc: Global, removed: &[MarkedRow]) -> Result<Vec<CatRow>, NoMemory>
+    ensures { IfOk result (λ rows. (us : List ConflictUnit) → rows_share rows.items us ≡ share_unit (units_of_rows removed.now) us) }
+{
+    let mut rows = Vec::new(alloc);
+    for row in removed {
+        put_mark(alloc, &mut rows, &row.mark)?;
+    }
+    Ok(rows)
+}
+
+/// Puts a mark into the last row, if that is of its table, and else into a row of its own behind the others.
+fn put_mark(alloc: Global, rows: &mut Vec<CatRow>, mark: &Mark) -> Result<(), NoMemory>
+    ensures { OnOk result ((us : List ConflictUnit) → rows_share rows.new.items us
+        ≡ (rows_share rows.old.items us || share_unit (whole_table mark.now.table ∷ []) us)) }
+{
+    match rows.last_mut() {
+        Some(last) if last.table == mark.table => add_mark(last, mark),
+        _ => {
+            rows.push(row_of(alloc, mark)?)?;
+            Ok(())
+        }
+    }
+}
+
+/// Puts a mark behind the marks of a row, unless it is the last of them already.
+fn add_mark(row: &mut CatRow, mark: &Mark) -> Result<(), NoMemory>
+    ensures { OnOk result ((us : List ConflictUnit) → share_unit (units_of_row row.new) us ≡ share_unit (whole_table row.old.table ∷ []) us) }
+{
+    match row.marks.as_slice().last() {
+        Some(last) if are_equal(last, mark) => Ok(()),
+        _ => row.marks.push(copy_mark(mark)?),
+    }
+}
+
+/// The row that has this mark alone.
+fn row_of(alloc: Global, mark: &Mark) -> Result<CatRow, NoMemory>
+    ensures { IfOk result (λ row. row ≡ record { seq = 0; table = mark.now.table; marks = mark.now ∷ [] }) }
+{
+    let mut marks = Listed::empty(alloc);
+    marks.push(copy_mark(mark)?)?;
+    let table = mark.table.copy()?;
+    Ok(CatRow {
+        seq: 0,
+        table,
+        marks,
+    })
+}
+
+fn are_equal(a: &Mark, b: &Mark) -> bool
+    ensures { result ≡ (same_text a.now.table b.now.table && (a.now.seq == b.now.seq) && (a.now.part == b.now.part) && (a.now.cell == b.now.cell)) }
+{
+    a.table == b.table && a.seq == b.seq && a.part == b.part && a.cell == b.cell
+}
+
+/// An equal mark.
+fn copy_mark(mark: &Mark) -> Result<Mark, NoMemory>
+    ensures { IfOk result (λ copy. copy ≡ mark.now) }
+{
+    Ok(Mark {
+        table: mark.table.copy()?,
+        seq: mark.seq,
+        part: mark.part,
+        cell: mark.cell,
+    })
+}
