@@ -128,7 +128,7 @@ running_stands st st' count session h rs rs' catalog spare spare' number number'
 
 -- the snapshots of the open transactions
 
-snapshot_of : (first session : ℕ) (os : List (ℕ × Transaction)) (t : Transaction) → AllByRecursion (λ o. first ≤ o.1.snapshot) os → opened_by session os ≡ Some t → first ≤ t.snapshot
+pub snapshot_of : (first session : ℕ) (os : List (ℕ × Transaction)) (t : Transaction) → AllByRecursion (λ o. first ≤ o.1.snapshot) os → opened_by session os ≡ Some t → first ≤ t.snapshot
 snapshot_of first session [] t all e = absurd cc
 snapshot_of first session (o ∷ os) t all e =
     elim (nat_eq o.0 session) as (λ b. (if b then Some o.1 else opened_by session os) ≡ Some t → first ≤ t.snapshot) [

@@ -3,3 +3,5 @@ pub mod HomeLemmas
 pub mod CommitLemmas
 pub mod RoomLemmas
 pub mod ReserveLemmas
+pub mod SnapshotLemmas
+pub mod ViewLemmas

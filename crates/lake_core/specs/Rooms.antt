@@ -2,13 +2,14 @@
 use Rattle.std.specs.Prelude.{◌≡◌, ◌≢◌, ◌≤◌, ℕ, zero, suc, ◌+◌, Bool, false, ◌&&◌, List, [], ◌∷◌, ◌++◌, None, Some, map, filter, length, vec_len, is_some, IfSome, if◌then◌else◌, nat_eq}
 use Rattle.std.specs.List.{AllByRecursion, list_any}
 use Rattle.std.specs.Option.{option_map_or}
+use Rattle.lake_values.specs.Schemas.{TableColumns}
 use Rattle.lake_model.specs.declared.entries.Change.{Change}
 use Rattle.lake_model.specs.declared.entries.Entry.{Entry}
 use Rattle.lake_model.specs.declared.entries.MarkedRow.{MarkedRow}
 use Rattle.lake_model.specs.Changes.{additions_left, committed, own}
 use Rattle.lake_model.specs.Listing.{SameBag}
 use Rattle.lake_model.specs.State.{State, Transaction, opened_by, version_at}
-use Rattle.lake_model.specs.Versions.{ConflictUnit, whole_table, share_unit}
+use Rattle.lake_model.specs.Versions.{ConflictUnit, Table, whole_table, share_unit}
 use Rattle.write_set_catalog.specs.declared.rows.CatRow.{CatRow}
 use Rattle.write_set_catalog.specs.Rows.{units_of_marks, units_of_row}
 use Rattle.table_history.specs.Histories.{NamesTables, rows_for}
@@ -133,3 +134,7 @@ abbrev pub with_room : Room → List Open → ℕ → List Open
 with_room room [] place = []
 with_room room (r ∷ rs) zero = record r { room = Some room } ∷ rs
 with_room room (r ∷ rs) (suc place) = r ∷ with_room room rs place
+
+-- a table of this name without rows
+abbrev pub empty_table : List ℕ → TableColumns → Table
+empty_table name schema = record { name = name; schema = schema; rows = [] }

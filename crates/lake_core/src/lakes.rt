@@ -1,9 +1,11 @@
 ghost use Rattle.std.specs.Prelude.{◌≡◌, ◌≢◌, ◌+◌, ◌<◌, ◌≤◌, ◌^◌, ℕ, [], ◌∷◌, true, false, None, Some, IsNone, IsSome, IfOk, IfSome, OnOk, OnErr, length, map};
 ghost use Rattle.std.specs.Option.{option_map};
 ghost use Rattle.lake_model.specs.Allowed.{IsAllowedRefusal, IsLegal};
-ghost use Rattle.lake_model.specs.State.{is_inside, last, newest, transaction};
+ghost use Rattle.lake_model.specs.State.{is_inside, last, newest, transaction, view};
 ghost use Rattle.lake_core.specs.Rooms.{table_rows_for, total};
-ghost use Rattle.lake_model.specs.Versions.{has_table};
+ghost use Rattle.lake_model.specs.Versions.{has_table, marked_rows_of};
+ghost use Rattle.table_history.specs.Stores.{marked_of};
+ghost use Rattle.lake_model.specs.Writing.{schemas_of};
 ghost use Rattle.lake_model.specs.declared.entries.Fact.TheVariants as fact;
 ghost use Rattle.lake_core.specs.Facts as facts;
 ghost use Rattle.lake_core.specs.Lakes.{Adds, HasPart, IsExplicit, has_room, new_lake, state_of};
@@ -15,13 +17,14 @@ use crate::entries::{Creation, committed, entry};
 use crate::opened::OpenTxn;
 use crate::reservations::{room_beside, room_for};
 use crate::transactions::{Open, end, place_of, put_first, put_room, stop, take_reserved};
+use crate::views::view_rows;
 use crate::who::Who;
-use lake_model::{Entry, Fact, Refusal, Reply};
+use lake_model::{Entry, Fact, Refusal, Reply, Schemas};
 use lake_outside::Port;
 use lake_values::{NoMemory, Schema, Text};
 use std::alloc::Global;
 use std::marker::{Model, PhantomData};
-use table_history::History;
+use table_history::{History, ViewRow};
 use write_set_catalog::Catalog;
 
 /// A lake: its chronicle, its versions and its open transactions.
@@ -91,6 +94,30 @@ impl<P: Port> LakeState<P> {
             Some(place) => Some(OpenTxn::of(&self.running[place])),
             None => None,
         }
+    }
+
+    /// The names of the tables that the session's transaction sees, with their schemas.
+    pub fn schemas(&self, alloc: Global, session: u32) -> Result<Schemas, NoMemory>
+        requires { IsSome (transaction (state_of self.now) session) }
+        ensures { IfOk result (λ schemas. schemas ≡ schemas_of (view (state_of self.now) session)) }
+    {
+        let place = place_of(self.running.as_slice(), session).unwrap();
+        self.history.schemas(alloc, self.running[place].snapshot)
+    }
+
+    /// The rows of a table that the session's transaction sees, lent: those of its version that it didn't remove, and
+    /// behind them those that it added. A table that isn't there has none.
+    pub fn rows_seen(
+        &self,
+        alloc: Global,
+        session: u32,
+        table: &Text,
+    ) -> Result<Vec<ViewRow<'_>>, NoMemory>
+        requires { IsSome (transaction (state_of self.now) session) }
+        ensures { IfOk result (λ rows. map (marked_of table.now) rows.items ≡ marked_rows_of table.now (view (state_of self.now) session)) }
+    {
+        let place = place_of(self.running.as_slice(), session).unwrap();
+        view_rows(alloc, &self.history, &self.running[place], table)
     }
 
     /// Creates a table outside a transaction, where no table has the name.

@@ -10,6 +10,7 @@ mod opened;
 mod reservations;
 mod rooms;
 mod transactions;
+mod views;
 mod who;
 
 pub use chronicles::Chronicle;
