@@ -4,6 +4,7 @@ pub mod Pending
 pub mod Steps
 pub mod Growth
 pub mod FrameLaw
+pub mod Effects
 pub mod FirstCommitter
 pub mod RightAnswers
 pub mod RightRuns

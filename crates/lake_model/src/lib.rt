@@ -3,6 +3,7 @@
 #![tactic(auto)]
 
 mod bound;
+mod copies;
 mod entries;
 mod expressions;
 mod laws;
@@ -17,12 +18,13 @@ pub use bound::{
     Bound, BoundAgg, BoundAggs, BoundExpr, BoundExprs, ExprLists, Key, Keys, Numbers, PairLists,
     Pairs, Query, Schemas, Texts,
 };
+pub use copies::{copy_additions, copy_marked_rows};
 pub use entries::{
     Added, AddedList, Cells16, Change, Chronicle, Entry, Fact, Mark, MarkedRow, MarkedRows, Marks,
 };
 pub use expressions::{Agg, ArithOp, CmpOp, Expr, Item, Items, Ref, Refs};
 pub use laws::{first_committer_wins, one_text, same_bags_same_answer, views_stay};
-pub use listing::{in_mark_order, in_row_order};
+pub use listing::{in_mark_order, in_row_order, sort_by_mark};
 pub use replies::{Failure, Refusal, Reply, Verb};
 pub use reply_texts::reply_text;
 pub use scopes::{ExprType, Found, Heading};

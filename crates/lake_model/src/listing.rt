@@ -22,6 +22,13 @@ pub fn in_mark_order(mut rows: Vec<MarkedRow>) -> Result<MarkedRows, NoMemory>
     Ok(MarkedRows::from_list(rows))
 }
 
+/// Puts the rows in ascending order of their marks, where they are.
+pub fn sort_by_mark(rows: &mut Vec<MarkedRow>)
+    ensures { rows.new.items ≡ ordered marked_cmp rows.old.items }
+{
+    rows.sort_unstable_by(compare_marked);
+}
+
 /// The order of rows with marks: by mark, and then by row.
 fn compare_marked(a: &MarkedRow, b: &MarkedRow) -> Ordering
     ensures { result ≡ marked_cmp a.now b.now }

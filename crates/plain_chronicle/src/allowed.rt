@@ -21,7 +21,7 @@ use crate::transactions::PlainTransaction;
 use crate::versions::{one_unit, units_of};
 use lake_model::{Added, Change, Entry, Fact, Mark, MarkedRow, Refusal, Reply};
 use lake_values::{Name, Names, NoMemory, Text};
-use plain_statement::{Table, copy_marked, table_of};
+use plain_statement::{Table, table_of};
 use std::alloc::Global;
 
 /// Whether the number is the next after this one.
@@ -52,7 +52,7 @@ fn push_copies(alloc: Global, rows: &[MarkedRow], out: &mut Vec<MarkedRow>) -> R
     ensures { OnOk result (out.new.items ≡ out.old.items ++ rows.now) }
 {
     for row in rows {
-        out.push(copy_marked(alloc, row)?)?;
+        out.push(row.copy(alloc)?)?;
     }
     Ok(())
 }

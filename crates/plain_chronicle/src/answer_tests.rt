@@ -1,21 +1,25 @@
 //! Sessions written out with their statements: which entries are right answers.
 
 use crate::tests::{
-    BOTH, COMPACTION, Did, FIRST_COMMIT, INSERTED_INSIDE, INSERTED_TWICE, Line, SECOND_INSERT,
-    SIDE_BY_SIDE, WRITE_SKEW, chronicle, collected_twice, name_of, rows_of,
+    BOTH, COMPACTION, Did, FIRST_COMMIT, INSERTED_INSIDE, INSERTED_TWICE, LAST_COMMIT, Line,
+    REFUSALS, SECOND_INSERT, SIDE_BY_SIDE, WRITE_SKEW, behind_both_commits, chronicle,
+    collected_twice, name_of, rows_of,
 };
 use crate::{PlainState, state};
-use lake_model::{CmpOp, Entry, Expr, Fact, Ref, Select, SourceRef, Statement};
+use lake_model::{Agg, CmpOp, Entry, Expr, Fact, Item, Ref, Select, SourceRef, Statement};
 use lake_values::{ColType, Column, Columns, Listed, Row, Rows, Value};
 use sql_binder::is_in_form;
 use sqlite_items::Boxed;
 use std::alloc::Global;
 use std::test::Fail;
 
-/// A statement in short: columns are of numbers, and conditions speak of the column `a`.
+/// A column that is to be created.
+type Typed<'a> = (&'a str, ColType);
+
+/// A statement in short: conditions speak of the column `a`.
 #[derive(Clone, Copy)]
 enum Said<'a> {
-    Create(&'a str, &'a [&'a str]),
+    Create(&'a str, &'a [Typed<'a>]),
     Begin,
     Commit,
     RollBack,
@@ -24,17 +28,22 @@ enum Said<'a> {
     /// An INSERT of two numbers as one row.
     InsertPair(&'a str, i64, i64),
     Select(&'a str),
+    /// A query for the column `a` beside a count of the rows.
+    SelectWithCount(&'a str),
     Delete(&'a str, i64),
     Compact,
     Collect,
 }
 
-fn columns(alloc: Global, names: &[&str]) -> Result<Columns, Fail> {
+/// One column `a` of numbers.
+const NUMBERS: [Typed<'static>; 1] = [("a", ColType::Int)];
+
+fn columns(alloc: Global, typed: &[Typed<'_>]) -> Result<Columns, Fail> {
     let mut columns = Vec::new(alloc);
-    for name in names {
+    for (name, kind) in typed {
         columns.push(Column {
             name: name_of(alloc, name)?,
-            kind: ColType::Int,
+            kind: *kind,
         })?;
     }
     Ok(Listed::from_list(columns))
@@ -45,15 +54,19 @@ fn pair(alloc: Global, x: i64, y: i64) -> Result<Rows, Fail> {
     Ok(Rows::from_rows(vec![in alloc; row]?))
 }
 
-fn equals(alloc: Global, number: i64) -> Result<Expr, Fail> {
-    let column = Expr::Column(Ref {
+/// `a`
+fn column(alloc: Global) -> Result<Expr, Fail> {
+    Ok(Expr::Column(Ref {
         table: None,
         column: name_of(alloc, "a")?,
-    });
+    }))
+}
+
+fn equals(alloc: Global, number: i64) -> Result<Expr, Fail> {
     let literal = Expr::Literal(Value::Int(number));
     Ok(Expr::Compare(
         CmpOp::Eq,
-        Boxed::new(alloc, column)?,
+        Boxed::new(alloc, column(alloc)?)?,
         Boxed::new(alloc, literal)?,
     ))
 }
@@ -75,11 +88,22 @@ fn select(alloc: Global, table: &str) -> Result<Select, Fail> {
     })
 }
 
+fn select_with_count(alloc: Global, table: &str) -> Result<Select, Fail> {
+    let items = vec![in alloc;
+        Item::Plain(column(alloc)?, None),
+        Item::Agg(Agg::CountAll, None),
+    ]?;
+    let mut query = select(alloc, table)?;
+    query.star = false;
+    query.items = Listed::from_list(items);
+    Ok(query)
+}
+
 fn statement(alloc: Global, said: Said<'_>) -> Result<Statement, Fail> {
     match said {
-        Said::Create(table, names) => Ok(Statement::Create {
+        Said::Create(table, typed) => Ok(Statement::Create {
             table: name_of(alloc, table)?,
-            columns: columns(alloc, names)?,
+            columns: columns(alloc, typed)?,
             distribution: None,
         }),
         Said::Begin => Ok(Statement::Begin),
@@ -94,6 +118,7 @@ fn statement(alloc: Global, said: Said<'_>) -> Result<Statement, Fail> {
             rows: pair(alloc, x, y)?,
         }),
         Said::Select(table) => Ok(Statement::Select(select(alloc, table)?)),
+        Said::SelectWithCount(table) => Ok(Statement::Select(select_with_count(alloc, table)?)),
         Said::Delete(table, number) => Ok(Statement::Delete {
             table: name_of(alloc, table)?,
             filter: Some(equals(alloc, number)?),
@@ -176,10 +201,28 @@ fn check_answers(
     Ok(None)
 }
 
+/// The number of the first of these lines that is a right answer in place of the right one.
+fn check_neighbours(
+    alloc: Global,
+    script: &[Said<'_>],
+    right: &[Line<'_>],
+    neighbours: &[(usize, Line<'_>)],
+) -> Result<Option<usize>, Fail> {
+    for (place, (number, line)) in neighbours.iter().enumerate() {
+        let Some((before, _)) = right.split_at_checked(*number) else {
+            return Err(Fail::new("no such line"));
+        };
+        if first_wrong(alloc, script, before, &[*line])? != Some(*number) {
+            return Ok(Some(place));
+        }
+    }
+    Ok(None)
+}
+
 #[test]
 fn refused_query_inside_a_transaction_is_answered(rt: HostRuntime) -> Result<(), Fail> {
     let script = [
-        Said::Create("t", &["a"]),
+        Said::Create("t", &NUMBERS),
         Said::Begin,
         Said::Insert("t", &[1]),
         Said::Select("nosuch"),
@@ -216,7 +259,7 @@ const INSERTS_BESIDE: [Line<'static>; 9] = [
 #[test]
 fn session_sees_its_snapshot_with_its_own_writes(rt: HostRuntime) -> Result<(), Fail> {
     let script = [
-        Said::Create("t", &["a"]),
+        Said::Create("t", &NUMBERS),
         Said::Insert("t", &[1, 2]),
         Said::Begin,
         Said::Insert("t", &[3]),
@@ -250,7 +293,7 @@ fn session_sees_its_snapshot_with_its_own_writes(rt: HostRuntime) -> Result<(), 
 #[test]
 fn query_behind_both_commits_sees_both(rt: HostRuntime) -> Result<(), Fail> {
     let script = [
-        Said::Create("t", &["a"]),
+        Said::Create("t", &NUMBERS),
         Said::Insert("t", &[1, 2]),
         Said::Begin,
         Said::Begin,
@@ -260,30 +303,19 @@ fn query_behind_both_commits_sees_both(rt: HostRuntime) -> Result<(), Fail> {
         Said::Commit,
         Said::Select("t"),
     ];
-    let commit = (3, 8, Did::Committed(4, &[]));
     let begun = (1, 9, Did::Began(false, 4, 4));
     let seen = (1, 9, Did::Selected(&[2, 3]));
-    let stale = (1, 9, Did::Selected(&[1, 2, 3]));
-    let commits = (1, 9, Did::Committed(5, &[]));
+    let ended = (1, 9, Did::Ended);
+    let fifth = (1, 9, Did::Committed(5, &[]));
     let ends: [(&[Line<'_>], Option<usize>); 4] = [
         (
-            &[
-                SECOND_INSERT,
-                FIRST_COMMIT,
-                commit,
-                begun,
-                seen,
-                (1, 9, Did::Ended),
-            ],
+            &[SECOND_INSERT, FIRST_COMMIT, LAST_COMMIT, begun, seen, ended],
             None,
         ),
+        (&behind_both_commits(Did::Selected(&[1, 2, 3])), Some(11)),
+        (&[SECOND_INSERT, FIRST_COMMIT, LAST_COMMIT, seen], Some(10)),
         (
-            &[SECOND_INSERT, FIRST_COMMIT, commit, begun, stale],
-            Some(11),
-        ),
-        (&[SECOND_INSERT, FIRST_COMMIT, commit, seen], Some(10)),
-        (
-            &[SECOND_INSERT, FIRST_COMMIT, commit, begun, seen, commits],
+            &[SECOND_INSERT, FIRST_COMMIT, LAST_COMMIT, begun, seen, fifth],
             Some(12),
         ),
     ];
@@ -297,8 +329,8 @@ fn query_behind_both_commits_sees_both(rt: HostRuntime) -> Result<(), Fail> {
 #[test]
 fn write_skew_is_answered(rt: HostRuntime) -> Result<(), Fail> {
     let script = [
-        Said::Create("x", &["a"]),
-        Said::Create("y", &["a"]),
+        Said::Create("x", &NUMBERS),
+        Said::Create("y", &NUMBERS),
         Said::Insert("x", &[1]),
         Said::Insert("y", &[1]),
         Said::Begin,
@@ -324,7 +356,7 @@ fn write_skew_is_answered(rt: HostRuntime) -> Result<(), Fail> {
 #[test]
 fn own_row_is_deleted_and_a_commit_fails_only_with_a_change(rt: HostRuntime) -> Result<(), Fail> {
     let mut script = [
-        Said::Create("t", &["a"]),
+        Said::Create("t", &NUMBERS),
         Said::Begin,
         Said::Insert("t", &[5]),
         Said::Delete("t", 5),
@@ -353,7 +385,7 @@ fn own_row_is_deleted_and_a_commit_fails_only_with_a_change(rt: HostRuntime) -> 
 #[test]
 fn compaction_takes_what_is_due(rt: HostRuntime) -> Result<(), Fail> {
     let script = [
-        Said::Create("t", &["a"]),
+        Said::Create("t", &NUMBERS),
         Said::Insert("t", &[1, 2]),
         Said::Insert("t", &[1]),
         Said::Begin,
@@ -363,30 +395,16 @@ fn compaction_takes_what_is_due(rt: HostRuntime) -> Result<(), Fail> {
         Said::Commit,
     ];
     let again = (1, 6, Did::Began(false, 5, 4));
+    let ended = (1, 6, Did::Ended);
     let delete = (2, 7, Did::Deleted("t", 2, 1, 2));
+    let conflict = (2, 8, Did::Conflict(4));
+    let nothing = (2, 7, Did::DeletedNone);
     let ends: [(&[Line<'_>], Option<usize>); 5] = [
-        (
-            &[
-                COMPACTION,
-                again,
-                (1, 6, Did::Ended),
-                delete,
-                (2, 8, Did::Conflict(4)),
-            ],
-            None,
-        ),
+        (&[COMPACTION, again, ended, delete, conflict], None),
         (&[(3, 5, Did::Ended)], Some(9)),
         (&[(3, 5, Did::Conflict(3))], Some(9)),
         (&[COMPACTION, again, (1, 6, Did::Conflict(4))], Some(11)),
-        (
-            &[
-                COMPACTION,
-                again,
-                (1, 6, Did::Ended),
-                (2, 7, Did::DeletedNone),
-            ],
-            Some(12),
-        ),
+        (&[COMPACTION, again, ended, nothing], Some(12)),
     ];
     assert_eq!(rt;
         check_answers(rt.alloc(), &script, &INSERTED_TWICE, &ends)?,
@@ -398,7 +416,7 @@ fn compaction_takes_what_is_due(rt: HostRuntime) -> Result<(), Fail> {
 #[test]
 fn collection_raises_the_floor_as_far_as_it_can(rt: HostRuntime) -> Result<(), Fail> {
     let script = [
-        Said::Create("t", &["a"]),
+        Said::Create("t", &NUMBERS),
         Said::Insert("t", &[1, 2]),
         Said::Insert("t", &[1]),
         Said::Begin,
@@ -421,50 +439,43 @@ fn collection_raises_the_floor_as_far_as_it_can(rt: HostRuntime) -> Result<(), F
     Ok(())
 }
 
+/// The statements of the session of which most are refused.
+const REFUSED: [Said<'static>; 11] = [
+    Said::Begin,
+    Said::Begin,
+    Said::Create("t", &NUMBERS),
+    Said::RollBack,
+    Said::Commit,
+    Said::Create("t", &NUMBERS),
+    Said::Create("t", &[("b", ColType::Int)]),
+    Said::Create("u", &[("a", ColType::Int), ("a", ColType::Text)]),
+    Said::InsertPair("t", 1, 2),
+    Said::SelectWithCount("t"),
+    Said::Delete("t", 4),
+];
+
 #[test]
 fn refusals_come_in_their_order(rt: HostRuntime) -> Result<(), Fail> {
-    let script = [
-        Said::Begin,
-        Said::Create("t", &["a"]),
-        Said::RollBack,
-        Said::Commit,
-        Said::Create("t", &["a"]),
-        Said::Create("t", &["a", "a"]),
-        Said::Create("u", &["a", "a"]),
-        Said::InsertPair("t", 1, 2),
-        Said::Delete("t", 4),
+    let alloc = rt.alloc();
+    assert_eq!(rt; first_wrong(alloc, &REFUSED, &REFUSALS, &[])?, None);
+    let neighbours = [
+        (1, (1, 2, Did::NoTransaction)),
+        (2, (1, 3, Did::Created("t", 1))),
+        (4, (1, 5, Did::InTransaction)),
+        (6, (1, 7, Did::Created("t", 2))),
+        (7, (1, 8, Did::Ambiguous("u"))),
+        (7, (1, 8, Did::Created("u", 2))),
+        (9, (1, 9, Did::Failed)),
+        (10, (1, 10, Did::NotGrouped)),
+        (11, (1, 10, Did::ColumnCount)),
+        (11, (1, 10, Did::Selected(&[]))),
+        (13, (1, 11, Did::Deleted("t", 1, 1, 4))),
+        (14, (1, 11, Did::RolledBack)),
     ];
-    let first = [
-        (1, 1, Did::Began(true, 1, 0)),
-        (1, 2, Did::InTransaction),
-        (1, 3, Did::RolledBack),
-        (1, 4, Did::NoTransaction),
-        (1, 5, Did::Created("t", 1)),
-    ];
-    let exists = (1, 6, Did::TableExists("t"));
-    let ambiguous = (1, 7, Did::Ambiguous("a"));
-    let begun = (1, 8, Did::Began(false, 2, 1));
-    let counted = (1, 8, Did::ColumnCount);
-    let later = (1, 9, Did::Began(false, 3, 1));
-    let ends: [(&[Line<'_>], Option<usize>); 5] = [
-        (
-            &[
-                exists,
-                ambiguous,
-                begun,
-                counted,
-                later,
-                (1, 9, Did::DeletedNone),
-                (1, 9, Did::Ended),
-            ],
-            None,
-        ),
-        (&[(1, 6, Did::Ambiguous("a"))], Some(5)),
-        (&[exists, (1, 7, Did::Ambiguous("u"))], Some(6)),
-        (&[exists, (1, 7, Did::Created("u", 2))], Some(6)),
-        (&[exists, ambiguous, begun, (1, 8, Did::Failed)], Some(8)),
-    ];
-    assert_eq!(rt; check_answers(rt.alloc(), &script, &first, &ends)?, None);
+    assert_eq!(rt;
+        check_neighbours(alloc, &REFUSED, &REFUSALS, &neighbours)?,
+        None
+    );
     Ok(())
 }
 

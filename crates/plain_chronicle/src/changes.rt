@@ -8,9 +8,9 @@ ghost use Rattle.lake_values.specs.Cells.{cell};
 ghost use Rattle.lake_values.specs.Order.{row_cmp};
 
 use crate::compared::{is_same, remove_one};
-use lake_model::{Added, AddedList, Change, Mark, MarkedRow, MarkedRows};
+use lake_model::{Added, AddedList, Change, Mark, MarkedRow, MarkedRows, copy_marked_rows};
 use lake_values::{Listed, NoMemory, Row, Rows, Schema, Text, Value, cell_of, copy_rows};
-use plain_statement::{Table, copy_mark, copy_marked, copy_marked_rows};
+use plain_statement::Table;
 use std::alloc::Global;
 
 pub fn no_change(alloc: Global) -> Change
@@ -34,32 +34,9 @@ pub fn copy_marks(alloc: Global, marks: &[Mark]) -> Result<Vec<Mark>, NoMemory>
 {
     let mut copies = Vec::with_capacity(alloc, marks.len())?;
     for mark in marks {
-        copies.push(copy_mark(mark)?)?;
+        copies.push(mark.copy()?)?;
     }
     Ok(copies)
-}
-
-fn copy_added(alloc: Global, added: &Added) -> Result<Added, NoMemory>
-    ensures { IfOk result (λ copy. copy ≡ added.now) }
-{
-    Ok(Added {
-        table: added.table.copy()?,
-        part: added.part,
-        rows: added.rows.copy(alloc)?,
-    })
-}
-
-/// An equal change.
-pub fn copy_change(alloc: Global, change: &Change) -> Result<Change, NoMemory>
-    ensures { IfOk result (λ copy. copy ≡ change.now) }
-{
-    let removed = copy_marked_rows(alloc, change.removed.as_slice())?;
-    let mut added = Vec::new(alloc);
-    push_copies(alloc, change.added.as_slice(), &mut added)?;
-    Ok(Change {
-        removed: MarkedRows::from_list(removed),
-        added: AddedList::from_list(added),
-    })
 }
 
 /// The marks of the rows.
@@ -68,7 +45,7 @@ pub fn marks_of(alloc: Global, rows: &[MarkedRow]) -> Result<Vec<Mark>, NoMemory
 {
     let mut marks = Vec::with_capacity(alloc, rows.len())?;
     for marked in rows {
-        marks.push(copy_mark(&marked.mark)?)?;
+        marks.push(marked.mark.copy()?)?;
     }
     Ok(marks)
 }
@@ -206,7 +183,7 @@ pub fn own(alloc: Global, rows: &[MarkedRow]) -> Result<Vec<MarkedRow>, NoMemory
     let mut own = Vec::new(alloc);
     for marked in rows {
         if is_own(marked) {
-            own.push(copy_marked(alloc, marked)?)?;
+            own.push(marked.copy(alloc)?)?;
         }
     }
     Ok(own)
@@ -222,7 +199,7 @@ fn push_committed(
 {
     for marked in rows {
         if !is_own(marked) {
-            out.push(copy_marked(alloc, marked)?)?;
+            out.push(marked.copy(alloc)?)?;
         }
     }
     Ok(())
@@ -279,7 +256,7 @@ fn push_copies(alloc: Global, added: &[Added], out: &mut Vec<Added>) -> Result<(
     ensures { OnOk result (out.new.items ≡ out.old.items ++ added.now) }
 {
     for part in added {
-        out.push(copy_added(alloc, part)?)?;
+        out.push(part.copy(alloc)?)?;
     }
     Ok(())
 }
@@ -330,7 +307,7 @@ pub fn kept(alloc: Global, tables: &[Table], marks: &[Mark]) -> Result<Vec<Mark>
     let mut kept = Vec::new(alloc);
     for mark in marks {
         if has_mark(tables, mark) {
-            kept.push(copy_mark(mark)?)?;
+            kept.push(mark.copy()?)?;
         }
     }
     Ok(kept)

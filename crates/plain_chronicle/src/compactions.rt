@@ -12,7 +12,7 @@ use crate::changes::marks_of;
 use crate::compared::{Compared, is_among, is_same};
 use lake_model::{Mark, MarkedRow};
 use lake_values::{NoMemory, Text};
-use plain_statement::{Table, copy_mark, copy_marked, marked_rows_of};
+use plain_statement::{Table, marked_rows_of};
 use std::alloc::Global;
 use std::cmp::Ordering;
 
@@ -23,7 +23,7 @@ fn marks_in_cell(alloc: Global, cell: u32, marks: &[Mark]) -> Result<Vec<Mark>, 
     let mut found = Vec::new(alloc);
     for mark in marks {
         if mark.cell == cell {
-            found.push(copy_mark(mark)?)?;
+            found.push(mark.copy()?)?;
         }
     }
     Ok(found)
@@ -129,7 +129,7 @@ fn others(alloc: Global, mark: &Mark, marks: &[Mark]) -> Result<Vec<Mark>, NoMem
     let mut rest = Vec::new(alloc);
     for other in marks {
         if !is_same(mark, other) {
-            rest.push(copy_mark(other)?)?;
+            rest.push(other.copy()?)?;
         }
     }
     Ok(rest)
@@ -152,7 +152,7 @@ fn each_once(alloc: Global, marks: &[Mark]) -> Result<Vec<Mark>, NoMemory>
 fn with_first(mark: &Mark, mut marks: Vec<Mark>) -> Result<Vec<Mark>, NoMemory>
     ensures { IfOk result (λ more. more.items ≡ mark.now ∷ marks.items) }
 {
-    marks.insert(0, copy_mark(mark)?)?;
+    marks.insert(0, mark.copy()?)?;
     Ok(marks)
 }
 
@@ -163,7 +163,7 @@ fn marks_in_cells(alloc: Global, cells: &[u32], marks: &[Mark]) -> Result<Vec<Ma
     let mut found = Vec::new(alloc);
     for mark in marks {
         if is_in_cells(mark, cells) {
-            found.push(copy_mark(mark)?)?;
+            found.push(mark.copy()?)?;
         }
     }
     Ok(found)
@@ -213,7 +213,7 @@ fn compare_marks(a: &Mark, b: &Mark) -> Ordering
 fn replaced(alloc: Global, seq: u64, marks: &[Mark], row: &MarkedRow) -> Result<MarkedRow, NoMemory>
     ensures { IfOk result (λ left. left ≡ spec.replaced seq marks.now row.now) }
 {
-    let mut left = copy_marked(alloc, row)?;
+    let mut left = row.copy(alloc)?;
     if is_among(&row.mark, marks) {
         left.mark.seq = seq;
         left.mark.part = 1;

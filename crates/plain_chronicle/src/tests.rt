@@ -32,6 +32,7 @@ pub enum Did<'a> {
     UnknownTable(&'a str),
     Ambiguous(&'a str),
     ColumnCount,
+    NotGrouped,
     Failed,
     /// A compaction of `t` that replaces the marks of a number in the commits 2 and 3.
     Compacted(i64, u64),
@@ -231,6 +232,7 @@ fn fact(alloc: Global, did: Did<'_>) -> Result<Fact, Fail> {
         Did::UnknownTable(table) => Ok(refused(Refusal::UnknownTable(name_of(alloc, table)?))),
         Did::Ambiguous(name) => Ok(refused(Refusal::Ambiguous(name_of(alloc, name)?))),
         Did::ColumnCount => Ok(refused(Refusal::ColumnCount)),
+        Did::NotGrouped => Ok(refused(Refusal::NotGrouped)),
         Did::Failed => Ok(Fact::Failed {
             cause: Failure::StoreFault { task: 0 },
         }),
@@ -354,6 +356,19 @@ pub const SECOND_INSERT: Line<'static> = (3, 6, Did::Inserted("t", 1, &[3]));
 
 pub const FIRST_COMMIT: Line<'static> = (2, 7, Did::Committed(3, &[]));
 
+pub const LAST_COMMIT: Line<'static> = (3, 8, Did::Committed(4, &[]));
+
+/// Both commits, and what a transaction does that begins behind them.
+pub fn behind_both_commits(did: Did<'_>) -> [Line<'_>; 5] {
+    [
+        SECOND_INSERT,
+        FIRST_COMMIT,
+        LAST_COMMIT,
+        (1, 9, Did::Began(false, 4, 4)),
+        (1, 9, did),
+    ]
+}
+
 #[test]
 fn second_delete_of_a_table_conflicts_with_the_first_committer(
     rt: HostRuntime,
@@ -385,10 +400,8 @@ fn second_delete_of_a_table_conflicts_with_the_first_committer(
 #[test]
 fn insert_beside_a_delete_commits(rt: HostRuntime) -> Result<(), Fail> {
     let alloc = rt.alloc();
-    let end = (3, 8, Did::Committed(4, &[]));
-    let later = (1, 9, Did::Began(false, 4, 4));
     let ends: [(&[Line<'_>], bool); 7] = [
-        (&[SECOND_INSERT, FIRST_COMMIT, end], true),
+        (&[SECOND_INSERT, FIRST_COMMIT, LAST_COMMIT], true),
         (
             &[SECOND_INSERT, FIRST_COMMIT, (3, 8, Did::Committed(3, &[]))],
             false,
@@ -398,36 +411,9 @@ fn insert_beside_a_delete_commits(rt: HostRuntime) -> Result<(), Fail> {
             false,
         ),
         (&[SECOND_INSERT, FIRST_COMMIT, (3, 8, Did::Ended)], false),
-        (
-            &[
-                SECOND_INSERT,
-                FIRST_COMMIT,
-                end,
-                later,
-                (1, 9, Did::Deleted("t", 2, 1, 2)),
-            ],
-            true,
-        ),
-        (
-            &[
-                SECOND_INSERT,
-                FIRST_COMMIT,
-                end,
-                later,
-                (1, 9, Did::Deleted("t", 2, 1, 1)),
-            ],
-            false,
-        ),
-        (
-            &[
-                SECOND_INSERT,
-                FIRST_COMMIT,
-                end,
-                later,
-                (1, 9, Did::Deleted("t", 4, 1, 3)),
-            ],
-            true,
-        ),
+        (&behind_both_commits(Did::Deleted("t", 2, 1, 2)), true),
+        (&behind_both_commits(Did::Deleted("t", 2, 1, 1)), false),
+        (&behind_both_commits(Did::Deleted("t", 4, 1, 3)), true),
     ];
     assert_eq!(rt; check_ends(alloc, &SIDE_BY_SIDE, &ends)?, None);
     Ok(())
@@ -569,27 +555,31 @@ fn collection_keeps_what_an_open_snapshot_sees(rt: HostRuntime) -> Result<(), Fa
     Ok(())
 }
 
+/// A session of which most statements are refused.
+pub const REFUSALS: [Line<'static>; 15] = [
+    (1, 1, Did::Began(true, 1, 0)),
+    (1, 2, Did::InTransaction),
+    (1, 3, Did::InTransaction),
+    (1, 4, Did::RolledBack),
+    (1, 5, Did::NoTransaction),
+    (1, 6, Did::Created("t", 1)),
+    (1, 7, Did::TableExists("t")),
+    (1, 8, Did::Ambiguous("a")),
+    (1, 9, Did::Began(false, 2, 1)),
+    (1, 9, Did::ColumnCount),
+    (1, 10, Did::Began(false, 3, 1)),
+    (1, 10, Did::NotGrouped),
+    (1, 11, Did::Began(false, 4, 1)),
+    (1, 11, Did::DeletedNone),
+    (1, 11, Did::Ended),
+];
+
 #[test]
 fn refusals_have_their_causes(rt: HostRuntime) -> Result<(), Fail> {
     let alloc = rt.alloc();
-    let first = [
-        (1, 1, Did::Began(true, 1, 0)),
-        (1, 2, Did::InTransaction),
-        (1, 3, Did::InTransaction),
-        (1, 4, Did::RolledBack),
-    ];
-    let rest = [
-        (1, 5, Did::NoTransaction),
-        (1, 6, Did::Created("t", 1)),
-        (1, 7, Did::TableExists("t")),
-        (1, 8, Did::Began(false, 2, 1)),
-        (1, 8, Did::ColumnCount),
-        (1, 9, Did::Began(false, 3, 1)),
-        (1, 9, Did::DeletedNone),
-        (1, 9, Did::Ended),
-    ];
+    let (first, rest) = REFUSALS.split_at(4);
     let ends: [(&[Line<'_>], bool); 4] = [
-        (&rest, true),
+        (rest, true),
         (&[(1, 5, Did::InTransaction)], false),
         (
             &[(1, 5, Did::Created("t", 1)), (1, 6, Did::TableExists("u"))],
@@ -600,10 +590,12 @@ fn refusals_have_their_causes(rt: HostRuntime) -> Result<(), Fail> {
             false,
         ),
     ];
-    assert_eq!(rt; check_ends(alloc, &first, &ends)?, None);
+    assert_eq!(rt; check_ends(alloc, first, &ends)?, None);
+    let (ran, _) = REFUSALS.split_at(14);
+    assert!(rt; !legal(alloc, ran, &[(1, 11, Did::Committed(2, &[]))])?);
     let lines: &[u8] =
-        b"1: begun at 0\n2: refused: in transaction\n3: refused: in transaction\n4: rolled back\n5: refused: no transaction\n6: created t as 1\n7: refused: table exists t\n8: refused: column count\n9: deleted 0\n";
-    let bytes = printed(alloc, &first, &rest, 9)?;
+        b"1: begun at 0\n2: refused: in transaction\n3: refused: in transaction\n4: rolled back\n5: refused: no transaction\n6: created t as 1\n7: refused: table exists t\n8: refused: ambiguous a\n9: refused: column count\n10: refused: not grouped\n11: deleted 0\n";
+    let bytes = printed(alloc, &REFUSALS, &[], 11)?;
     assert_eq!(rt; bytes.as_slice(), lines);
     Ok(())
 }

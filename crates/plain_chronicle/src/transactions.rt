@@ -3,7 +3,7 @@ ghost use Rattle.lake_model.specs.Changes as changes;
 ghost use Rattle.lake_model.specs.Changes.{no_change};
 ghost use Rattle.lake_model.specs.State as spec;
 
-use crate::changes::{copy_change, copy_marks, marks_of, no_change, own, pend};
+use crate::changes::{copy_marks, marks_of, no_change, own, pend};
 use lake_model::{Change, Mark, Reply};
 use lake_values::NoMemory;
 use std::alloc::Global;
@@ -107,7 +107,7 @@ impl PlainTransaction {
     pub fn with_stop(&self, alloc: Global) -> Result<PlainTransaction, NoMemory>
         ensures { IfOk result (λ after. after ≡ record self.now { parts = self.now.parts + 1 }) }
     {
-        let pending = copy_change(alloc, &self.pending)?;
+        let pending = self.pending.copy(alloc)?;
         let worn = copy_marks(alloc, self.worn.as_slice())?;
         let parts = sum(self.parts, 1)?;
         Ok(PlainTransaction {

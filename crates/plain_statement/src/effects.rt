@@ -15,7 +15,7 @@ ghost use Rattle.plain_query.specs.Databases.{IsReady};
 ghost use Rattle.plain_statement.specs.Effects.{IfRefused, effect_seen};
 ghost use Rattle.row_evaluation.specs.declared.rows.EvaluationFault.TheVariants as fault;
 
-use crate::tables::{Table, copy_marked, marked_rows_of, slices_of, tables_lent};
+use crate::tables::{Table, marked_rows_of, slices_of, tables_lent};
 use lake_model::{
     Added, AddedList, Bound, BoundExpr, Change, MarkedRow, Query, Refusal, Reply, Schemas,
     Statement, Verb, in_mark_order, in_row_order,
@@ -273,7 +273,7 @@ fn matched(
 fn push_marked(alloc: Global, marked: &MarkedRow, out: &mut Vec<MarkedRow>) -> Result<(), NoMemory>
     ensures { OnOk result (out.new.items ≡ out.old.items ++ marked.now ∷ []) }
 {
-    out.push(copy_marked(alloc, marked)?)?;
+    out.push(marked.copy(alloc)?)?;
     Ok(())
 }
 

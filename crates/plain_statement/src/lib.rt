@@ -7,9 +7,7 @@ mod tables;
 
 pub use effects::{Effect, EffectFault, run_over};
 pub use kinds::{is_write, reads_rows};
-pub use tables::{
-    Table, copy_mark, copy_marked, copy_marked_rows, marked_rows_of, schemas_of, table_of,
-};
+pub use tables::{Table, marked_rows_of, schemas_of, table_of};
 
 #[cfg(test)]
 mod tests;

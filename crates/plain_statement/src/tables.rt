@@ -4,7 +4,7 @@ ghost use Rattle.lake_model.specs.Versions.{rows_of, same_text, table_of, marked
 ghost use Rattle.lake_model.specs.Writing.{schemas_of};
 ghost use Rattle.plain_query.specs.Databases.{rows_lent};
 
-use lake_model::{Mark, MarkedRow, Schemas};
+use lake_model::{MarkedRow, Schemas, copy_marked_rows};
 use lake_values::{Listed, NoMemory, Row, Schema, Text};
 use std::alloc::Global;
 use std::marker::Model;
@@ -59,39 +59,6 @@ impl Table {
         let rows = copy_marked_rows(alloc, self.rows.as_slice())?;
         Ok(Table { name, schema, rows })
     }
-}
-
-/// An equal mark.
-pub fn copy_mark(mark: &Mark) -> Result<Mark, NoMemory>
-    ensures { IfOk result (λ copy. copy ≡ mark.now) }
-{
-    Ok(Mark {
-        table: mark.table.copy()?,
-        seq: mark.seq,
-        part: mark.part,
-        cell: mark.cell,
-    })
-}
-
-/// An equal row with an equal mark.
-pub fn copy_marked(alloc: Global, marked: &MarkedRow) -> Result<MarkedRow, NoMemory>
-    ensures { IfOk result (λ copy. copy ≡ marked.now) }
-{
-    Ok(MarkedRow {
-        mark: copy_mark(&marked.mark)?,
-        row: marked.row.copy(alloc)?,
-    })
-}
-
-/// Equal rows with equal marks, in the same order.
-pub fn copy_marked_rows(alloc: Global, rows: &[MarkedRow]) -> Result<Vec<MarkedRow>, NoMemory>
-    ensures { IfOk result (λ copies. copies.items ≡ rows.now) }
-{
-    let mut copies = Vec::with_capacity(alloc, rows.len())?;
-    for marked in rows {
-        copies.push(copy_marked(alloc, marked)?)?;
-    }
-    Ok(copies)
 }
 
 /// The table that has the name.
