@@ -307,7 +307,7 @@ committed_stands st session t count h h' rs rs' catalog catalog' spare spare' nu
     subst S (sym here) (record {
       history = history_more st st' v h h' refl (all_filter (λ (o : ℕ × Transaction). h.first ≤ o.1.snapshot) (λ o. not (nat_eq o.0 session)) st.running kept.snapshots) kept (subst G tables grown);
       open_ones = open_;
-      own_sessions = leaves.own;
+      own_sessions = leaves.keeps.own;
       written = subst W (sym rows) (written_more st st' v catalog.rows room.rows.items (last_of h + 1) refl (omega (arith, kept.counted, kept.some)) stands.written (λ us. made.rows us ∙ units_bag removed t.pending.removed us bag));
       numbered = stands.numbered;
       rooms = rooms;

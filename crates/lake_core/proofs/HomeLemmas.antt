@@ -20,7 +20,7 @@ use Rattle.lake_model.specs.Versions.{ConflictUnit, Table, Tables, Version, empt
 use Rattle.lake_model.proofs.Lists.{all_filter}
 use Rattle.lake_model.proofs.Steps.{legal_append, state_append}
 use Rattle.table_history.proofs.PlaceLemmas.{room_weaker}
-use Rattle.table_history.specs.Histories.{GrowsBy, History, has_room, last_of, newest_of, no_tables, tables_in}
+use Rattle.table_history.specs.Histories.{GrowsBy, History, KeepsRoom, has_room, last_of, newest_of, no_tables, rows_for, tables_in}
 use Rattle.write_set_catalog.specs.Catalogs.{Catalogued}
 use Rattle.write_set_catalog.specs.Rows.{units_of_row}
 use Rattle.write_set_catalog.specs.declared.rows.CatRow.{CatRow}
@@ -29,8 +29,8 @@ use Rattle.lake_core.specs.declared.who.Who.{Who}
 use Rattle.lake_core.specs.Facts as facts
 use Rattle.lake_core.specs.Homes.{HasRooms, IsHistory, IsHome, StandsFor, chronicle_of, noted_entry}
 use Rattle.lake_core.specs.Lakes.{Adds, IsExplicit, Lake, noted, state_of}
-use Rattle.lake_core.specs.Rooms.{AreOpen, HaveOwnSessions, IsNoSession, IsOpen, IsWritten, LeavesRooms, NeedsRoom, catalog_rows_for, entries_for, rooms_of, table_rows_for, total}
-use Rattle.lake_core.proofs.OpenLemmas.{IsAt, apart, at_within, first_rooms, found_at, found_nowhere, no_open, number_self, open_at, open_none, same_number, same_rooms}
+use Rattle.lake_core.specs.Rooms.{AreOpen, HaveOwnSessions, IsNoSession, IsOpen, IsReservedWeight, IsWritten, KeepsRooms, LeavesRooms, catalog_rows_for, entries_for, in_rooms, rooms_of, table_rows_for, total}
+use Rattle.lake_core.proofs.OpenLemmas.{IsAt, apart, at_within, found_at, found_nowhere, no_open, open_at, open_is, open_none, same_number, same_rooms}
 
 -- the state behind one entry more
 pub state_next : (entries : List Noted) (e : Noted) → state (entries ++ e ∷ []) ≡ after (state entries) e
@@ -58,11 +58,17 @@ home_at who f es new e behind is h running catalog spare number home =
     let P : List Noted → Type 0 = λ ns. IsHome ns h running catalog spare number in
     subst P (sym (entries_are who f es new e behind is)) home
 
-pub adds_at : (who : Who) (f : Fact) (es new : List Entry) (e : Entry) → new ≡ es ++ e ∷ [] → e ≡ record { session = who.session; place = who.place; fact = f } → (rs rs' : List Open) → LeavesRooms who.session rs rs' →
+pub adds_at : (who : Who) (f : Fact) (es new : List Entry) (e : Entry) → new ≡ es ++ e ∷ [] → e ≡ record { session = who.session; place = who.place; fact = f } → (rs rs' : List Open) → KeepsRooms who.session rs rs' →
+    {h : History} {catalog : Catalogued} {spare number : ℕ} → IsHome (chronicle_of new) h rs' catalog spare number →
     (old : Lake) → record { entries = chronicle_of es; rooms = rooms_of rs } ≡ old → Adds old (record { entries = chronicle_of new; rooms = rooms_of rs' }) who f
-adds_at who f es new e behind is rs rs' leaves old seen =
+adds_at who f es new e behind is rs rs' keeps home old seen =
     let P : Lake → Type 0 = λ l. Adds l (record { entries = chronicle_of new; rooms = rooms_of rs' }) who f in
-    subst P seen (record { entries = entries_are who f es new e behind is; used = leaves.used; others = leaves.others })
+    subst P seen (record {
+      entries = entries_are who f es new e behind is;
+      legal = home.legal;
+      kept = keeps.kept ∙ ap (λ (b : Bool). in_rooms who.session rs && b) (sym (open_is who.session (state (chronicle_of new)) rs' home.stands.open_ones));
+      others = keeps.others;
+    })
 
 -- versions that stay
 
@@ -76,14 +82,14 @@ history_same st st' h same snapshots kept =
     let P : List Version → Type 0 = λ vs. IsHistory (record st' { versions = vs }) h in
     subst P (sym same) (record { some = kept.some; counted = kept.counted; tables = kept.tables; snapshots = snapshots })
 
-needs_entries : NeedsRoom entries_for
-needs_entries r none = let no : is_some r.room ≡ false = ap is_some none in rw no refl
+weigh_entries : IsReservedWeight entries_for
+weigh_entries = record { none = λ r none. ap (λ o. if is_some o then 1 else 0) none; parts = λ r n. refl }
 
-needs_catalog : NeedsRoom catalog_rows_for
-needs_catalog r none = ap (λ o. option_map_or (λ room. vec_len room.rows) o 0) none
+weigh_catalog : IsReservedWeight catalog_rows_for
+weigh_catalog = record { none = λ r none. ap (λ o. option_map_or (λ room. vec_len room.rows) o 0) none; parts = λ r n. refl }
 
-needs_tables : (name : List ℕ) → NeedsRoom (table_rows_for name)
-needs_tables name r none = let no : is_some r.room ≡ false = ap is_some none in rw no refl
+weigh_tables : (name : List ℕ) → IsReservedWeight (table_rows_for name)
+weigh_tables name = record { none = λ r none. ap (λ o. if is_some o then rows_for name r.added.items else 0) none; parts = λ r n. refl }
 
 -- what is reserved stays reserved
 
@@ -94,8 +100,8 @@ pub rooms_left : (session : ℕ) (rs rs' : List Open) (h : History) (catalog : C
 rooms_left session rs rs' h catalog spare spare' leaves rooms enough = record {
   ready = leaves.ready rooms.ready;
   entries = enough;
-  catalog_rows = omega (arith, leaves.less catalog_rows_for needs_catalog, rooms.catalog_rows);
-  table_rows = λ name. fewer_rows h.spares name (total (table_rows_for name) rs') (total (table_rows_for name) rs) (leaves.less (table_rows_for name) (needs_tables name)) (rooms.table_rows name);
+  catalog_rows = omega (arith, leaves.less catalog_rows_for weigh_catalog, rooms.catalog_rows);
+  table_rows = λ name. fewer_rows h.spares name (total (table_rows_for name) rs') (total (table_rows_for name) rs) (leaves.less (table_rows_for name) (weigh_tables name)) (rooms.table_rows name);
 }
 
 -- there are no more rooms than transactions
@@ -108,23 +114,29 @@ few_rooms (r ∷ rs) = elim (is_some r.room) as (λ b. (if b then 1 else 0) + to
 
 -- after room for each transaction and one more is made, and one entry is put there
 pub entries_left : (session : ℕ) (rs rs' : List Open) (reserved spare : ℕ) → LeavesRooms session rs rs' → 1 + length rs ≤ reserved → reserved ≤ spare + 1 → total entries_for rs' ≤ spare
-entries_left session rs rs' reserved spare leaves made put = omega (arith, few_rooms rs, leaves.less entries_for needs_entries)
+entries_left session rs rs' reserved spare leaves made put = omega (arith, few_rooms rs, leaves.less entries_for weigh_entries)
 
 -- an entry that only changes the open transactions
+
+pub rooms_stands : (st st' : State) (count : ℕ) (h : History) (rs rs' : List Open) (catalog : Catalogued) (spare spare' number number' : ℕ) → StandsFor st count h rs catalog spare number →
+    st'.versions ≡ st.versions → st'.last_number ≡ number' → number' ≤ count + 1 → AllByRecursion (λ o. h.first ≤ o.1.snapshot) st'.running → AreOpen st'.running rs' → HaveOwnSessions rs' → HasRooms rs' h catalog spare' →
+    StandsFor st' (count + 1) h rs' catalog spare' number'
+rooms_stands st st' count h rs rs' catalog spare spare' number number' stands same numbered few snapshots open_ own rooms = record {
+  history = history_same st st' h same snapshots stands.history;
+  open_ones = open_;
+  own_sessions = own;
+  written = written_same st st' catalog.rows same stands.written;
+  numbered = numbered;
+  rooms = rooms;
+  few_versions = omega (arith, stands.few_versions, ap (λ (vs : List Version). length vs) same);
+  few_numbers = few;
+}
 
 pub running_stands : (st st' : State) (count : ℕ) (session : ℕ) (h : History) (rs rs' : List Open) (catalog : Catalogued) (spare spare' number number' : ℕ) → StandsFor st count h rs catalog spare number →
     st'.versions ≡ st.versions → st'.last_number ≡ number' → number' ≤ count + 1 → AllByRecursion (λ o. h.first ≤ o.1.snapshot) st'.running → AreOpen st'.running rs' → LeavesRooms session rs rs' → total entries_for rs' ≤ spare' →
     StandsFor st' (count + 1) h rs' catalog spare' number'
-running_stands st st' count session h rs rs' catalog spare spare' number number' stands same numbered few snapshots open_ leaves enough = record {
-  history = history_same st st' h same snapshots stands.history;
-  open_ones = open_;
-  own_sessions = leaves.own;
-  written = written_same st st' catalog.rows same stands.written;
-  numbered = numbered;
-  rooms = rooms_left session rs rs' h catalog spare spare' leaves stands.rooms enough;
-  few_versions = omega (arith, stands.few_versions, ap (λ (vs : List Version). length vs) same);
-  few_numbers = few;
-}
+running_stands st st' count session h rs rs' catalog spare spare' number number' stands same numbered few snapshots open_ leaves enough =
+    rooms_stands st st' count h rs rs' catalog spare spare' number number' stands same numbered few snapshots open_ leaves.keeps.own (rooms_left session rs rs' h catalog spare spare' leaves stands.rooms enough)
 
 -- the snapshots of the open transactions
 
@@ -185,6 +197,52 @@ pub newest_same : (st : State) (h : History) → IsHistory st h → newest_of h 
 newest_same st h kept =
     let is = last_same st h kept in
     ap (tables_in h) is ∙ kept.tables (last st) (omega (arith, kept.counted, kept.some)) (omega (arith, kept.counted, kept.some))
+
+-- versions that are let go, where no transaction is open
+
+pub empty_is : {X : Type 0} (xs : List X) → nat_eq (length xs) 0 ≡ true → xs ≡ []
+empty_is [] e = refl
+empty_is (x ∷ xs) e = absurd (omega (arith, same_number (length (x ∷ xs)) 0 e))
+
+pub history_forgotten : (st : State) (h h' : History) (rs : List Open) → rs ≡ [] → AreOpen st.running rs → h'.first ≡ last_of h → h'.tables ≡ newest_of h ∷ [] → IsHistory st h → IsHistory st h'
+history_forgotten st h h' rs none open_ first tables kept =
+    let is = last_same st h kept in
+    let R : List Open → Type 0 = λ os. AreOpen st.running os in
+    let P : ℕ × List Tables → Type 0 = λ p. IsHistory st (record { first = p.0; tables = p.1; spares = h'.spares }) in
+    subst P (λ i. (sym first i, sym tables i)) (record {
+      some = omega arith;
+      counted = omega (arith, kept.counted, kept.some);
+      tables = λ n from within. only n (omega (arith, from, within, kept.counted, kept.some));
+      snapshots = nobody st.running (subst R none open_);
+    })
+  where
+    nobody : (os : List (ℕ × Transaction)) → AreOpen os [] → AllByRecursion (λ o. last_of h ≤ o.1.snapshot) os
+    nobody [] open_ = tt
+    nobody (o ∷ os) open_ = absurd open_
+
+    only : (n : ℕ) → n ≡ last_of h → tables_in (record { first = last_of h; tables = newest_of h ∷ []; spares = h'.spares }) n ≡ (version_at st n).tables
+    only n is =
+        let P : ℕ → Type 0 = λ m. tables_in (record { first = last_of h; tables = newest_of h ∷ []; spares = h'.spares }) m ≡ (version_at st m).tables in
+        let T : ℕ → Tables = λ m. unwrap_or (slice_get (newest_of h ∷ []) m) [] in
+        let none : last_of h - last_of h ≡ 0 = omega arith in
+        subst P (sym is) (ap T none ∙ kept.tables (last_of h) (omega (arith, kept.some)) (omega (arith, kept.counted, kept.some)))
+
+pub forgotten_stands : (st : State) (count : ℕ) (h h' : History) (rs : List Open) (catalog : Catalogued) (spare number : ℕ) → StandsFor st count h rs catalog spare number → IsHistory st h' → KeepsRoom h h' → StandsFor st count h' rs catalog spare number
+forgotten_stands st count h h' rs catalog spare number stands history keeps = record {
+  history = history;
+  open_ones = stands.open_ones;
+  own_sessions = stands.own_sessions;
+  written = stands.written;
+  numbered = stands.numbered;
+  rooms = record {
+    ready = stands.rooms.ready;
+    entries = stands.rooms.entries;
+    catalog_rows = stands.rooms.catalog_rows;
+    table_rows = λ name. keeps name (total (table_rows_for name) rs) (stands.rooms.table_rows name);
+  };
+  few_versions = stands.few_versions;
+  few_numbers = stands.few_numbers;
+}
 
 -- a transaction that begins
 pub began_stands : (st : State) (count session : ℕ) (explicit : Bool) (h : History) (rs : List Open) (r : Open) (catalog : Catalogued) (spare spare' number snapshot : ℕ) → StandsFor st count h rs catalog spare number →
@@ -380,9 +438,6 @@ began_home who explicit entries h rs r catalog spare spare' number snapshot home
     home_more entries (noted who (fact.Began explicit (number + 1) snapshot)) h (r ∷ rs) catalog spare' (number + 1) home.legal
     (subst P (sym nothing) refl, ap (λ (n : ℕ). n + 1) (sym home.stands.numbered), is)
     (began_stands st (length entries) who.session explicit h rs r catalog spare spare' number snapshot home.stands is (no_open who.session st.running rs home.stands.open_ones none) begun leaves enough)
-
-pub begun_rooms : (session : ℕ) (rs : List Open) (r : Open) → HaveOwnSessions rs → IsNoSession session rs → r.session ≡ session → r.room ≡ None → LeavesRooms session rs (r ∷ rs)
-begun_rooms session rs r own none mine unready = first_rooms session rs rs r (same_rooms session rs own none) none (ap (λ (n : ℕ). nat_eq n session) mine ∙ number_self session) unready
 
 pub adds_same : {old new : Lake} {who : Who} {f f' : Fact} → f ≡ f' → Adds old new who f → Adds old new who f'
 adds_same {old} {new} {who} is adds = let P : Fact → Type 0 = λ f. Adds old new who f in subst P is adds

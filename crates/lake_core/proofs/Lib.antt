@@ -5,3 +5,4 @@ pub mod RoomLemmas
 pub mod ReserveLemmas
 pub mod SnapshotLemmas
 pub mod ViewLemmas
+pub mod FurtherLemmas

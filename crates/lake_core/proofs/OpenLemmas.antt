@@ -13,7 +13,7 @@ use Rattle.lake_model.specs.Changes.{is_nil, is_unchanged}
 use Rattle.lake_model.specs.Listing.{SameBag}
 use Rattle.lake_core.specs.declared.transactions.Open.{Open}
 use Rattle.lake_core.specs.declared.transactions.Room.{Room}
-use Rattle.lake_core.specs.Rooms.{AreOpen, HaveOwnSessions, IsNoSession, IsOpen, IsReady, IsRoomFor, LeavesRooms, OpenAt, entries_for, in_rooms, total, with_room}
+use Rattle.lake_core.specs.Rooms.{AreOpen, HaveOwnSessions, IsNoSession, IsOpen, IsReady, IsRoomFor, KeepsRooms, LeavesRooms, OpenAt, entries_for, has_open, in_rooms, total, with_room}
 
 pub same_number : (m n : ℕ) → nat_eq m n ≡ true → m ≡ n
 same_number m n e = grind arith
@@ -192,43 +192,141 @@ other_rooms session other (r ∷ rs) (suc place) at differ =
 
 -- a transaction for which no room is reserved is put first
 
-pub rooms_first : (session : ℕ) (r : Open) (rs : List Open) → r.room ≡ None → in_rooms session (r ∷ rs) ≡ in_rooms session rs
+rooms_first : (session : ℕ) (r : Open) (rs : List Open) → r.room ≡ None → in_rooms session (r ∷ rs) ≡ in_rooms session rs
 rooms_first session r rs none =
     let not_there : is_some r.room ≡ false = ap is_some none in
     rw not_there refl
 
+-- whether a session has a transaction
+
+none_open : (session : ℕ) (rs : List Open) → IsNoSession session rs → has_open session rs ≡ false
+none_open session [] none = refl
+none_open session (r ∷ rs) none = ap (λ (b : Bool). b || has_open session rs) none.0 ∙ none_open session rs none.1
+
+pub open_is : (session : ℕ) (st : State) (rs : List Open) → AreOpen st.running rs → is_some (transaction st session) ≡ has_open session rs
+open_is session st rs open_ = each st.running rs open_
+  where
+    each : (os : List (ℕ × Transaction)) (rs : List Open) → AreOpen os rs → is_some (opened_by session os) ≡ has_open session rs
+    each [] [] open_ = refl
+    each [] (r ∷ rs) open_ = absurd open_
+    each (o ∷ os) [] open_ = absurd open_
+    each (o ∷ os) (r ∷ rs) open_ =
+        (elim (nat_eq o.0 session) as (λ b. is_some (if b then Some o.1 else opened_by session os) ≡ (b || has_open session rs)) [
+          | true ↦ refl
+          | false ↦ each os rs open_.1
+        ]) ∙ ap (λ (n : ℕ). nat_eq n session || has_open session rs) (sym open_.0.session)
+
 -- what a change of the transactions leaves reserved
+
+never : (b : Bool) → (b && false) ≡ false
+never true = refl
+never false = refl
+
+no_rooms : (session : ℕ) (old new : List Open) → IsNoSession session new → in_rooms session new ≡ (in_rooms session old && has_open session new)
+no_rooms session old new none =
+    no_room session new none ∙ sym (never (in_rooms session old)) ∙ ap (λ (b : Bool). in_rooms session old && b) (sym (none_open session new none))
 
 pub taken_rooms : (session : ℕ) (rs : List Open) (place : ℕ) (r : Open) → HaveOwnSessions rs → IsAt session rs place → r ≡ get_or rs place r → LeavesRooms session rs (remove rs place)
 taken_rooms session rs place r own at is = record {
-  own = own_left rs place own;
-  used = no_room session (remove rs place) (none_left session rs place own at);
-  others = λ other differ. other_rooms session other rs place at differ;
+  keeps = record {
+    own = own_left rs place own;
+    kept = no_rooms session rs (remove rs place) (none_left session rs place own at);
+    others = λ other differ. other_rooms session other rs place at differ;
+  };
   ready = all_left IsReady rs place;
-  less = λ g needs. omega (arith, total_left g session rs place r at is);
+  less = λ g weight. omega (arith, total_left g session rs place r at is);
 }
 
 pub same_rooms : (session : ℕ) (rs : List Open) → HaveOwnSessions rs → IsNoSession session rs → LeavesRooms session rs rs
 same_rooms session rs own none = record {
-  own = own;
-  used = no_room session rs none;
-  others = λ other differ. refl;
+  keeps = record { own = own; kept = no_rooms session rs rs none; others = λ other differ. refl };
   ready = λ all. all;
-  less = λ g needs. omega arith;
+  less = λ g weight. omega arith;
 }
 
--- and a transaction of the session is put first for which no room is reserved
-pub first_rooms : (session : ℕ) (rs left : List Open) (r : Open) → LeavesRooms session rs left → IsNoSession session left → nat_eq r.session session ≡ true → r.room ≡ None → LeavesRooms session rs (r ∷ left)
-first_rooms session rs left r leaves none mine unready =
-    let P : ℕ → Type 0 = λ n. IsNoSession n left in
-    let not_there : is_some r.room ≡ false = ap is_some unready in
+-- a session without a transaction begins one
+pub begun_rooms : (session : ℕ) (rs : List Open) (r : Open) → HaveOwnSessions rs → IsNoSession session rs → r.session ≡ session → r.room ≡ None → LeavesRooms session rs (r ∷ rs)
+begun_rooms session rs r own none mine unready =
+    let P : ℕ → Type 0 = λ n. IsNoSession n rs in
+    let Q : Option Room → Type 0 = λ room. IfSome room (IsRoomFor r.removed.items) in
+    let nothing = no_room session rs none in
     record {
-      own = (subst P (sym (same_number r.session session mine)) none, leaves.own);
-      used = rooms_first session r left unready ∙ leaves.used;
-      others = λ other differ. rooms_first other r left unready ∙ leaves.others other differ;
-      ready = λ all. (let Q : Option Room → Type 0 = λ room. IfSome room (IsRoomFor r.removed.items) in subst Q (sym unready) tt, leaves.ready all);
-      less = λ g needs. omega (arith, needs r unready, leaves.less g needs);
+      keeps = record {
+        own = (subst P (sym mine) none, own);
+        kept = rooms_first session r rs unready ∙ nothing ∙ ap (λ (b : Bool). b && has_open session (r ∷ rs)) (sym nothing);
+        others = λ other differ. rooms_first other r rs unready;
+      };
+      ready = λ all. (subst Q (sym unready) tt, all);
+      less = λ g weight. omega (arith, weight.none r unready);
     }
+
+-- where room is reserved for a session
+
+pub room_at : (session : ℕ) (rs : List Open) (place : ℕ) (r : Open) → HaveOwnSessions rs → IsAt session rs place → r ≡ get_or rs place r → in_rooms session rs ≡ is_some r.room
+room_at session [] place r own at is = absurd at
+room_at session (s ∷ rs) zero r own at is =
+    let P : ℕ → Type 0 = λ n. IsNoSession n rs in
+    let none : in_rooms session rs ≡ false = no_room session rs (subst P (same_number s.session session at) own.0) in
+    (elim (is_some s.room) as (λ b. list_any (λ n. nat_eq n session) (map (λ (t : Open). t.session) (cond b (s ∷ filter (λ (t : Open). is_some t.room) rs) (filter (λ (t : Open). is_some t.room) rs))) ≡ b) [
+      | true ↦ ap (λ (b : Bool). b || in_rooms session rs) at
+      | false ↦ none
+    ]) ∙ ap (λ (t : Open). is_some t.room) (sym is)
+room_at session (s ∷ rs) (suc place) r own at is = rooms_step session s rs at.0 ∙ room_at session rs place r own.1 at.1 is
+
+session_at : (session : ℕ) (rs : List Open) (place : ℕ) (r : Open) → IsAt session rs place → r ≡ get_or rs place r → nat_eq r.session session ≡ true
+session_at session [] place r at is = absurd at
+session_at session (s ∷ rs) zero r at is = ap (λ (t : Open). nat_eq t.session session) is ∙ at
+session_at session (s ∷ rs) (suc place) r at is = session_at session rs place r at.1 is
+
+pub ready_at : (session : ℕ) (rs : List Open) (place : ℕ) (r : Open) → IsAt session rs place → r ≡ get_or rs place r → AllByRecursion IsReady rs → IsReady r
+ready_at session [] place r at is all = absurd at
+ready_at session (s ∷ rs) zero r at is all = subst IsReady (sym is) all.0
+ready_at session (s ∷ rs) (suc place) r at is all = ready_at session rs place r at.1 is all.1
+
+mine_first : (session : ℕ) (r : Open) (rs : List Open) → nat_eq r.session session ≡ true → in_rooms session (r ∷ rs) ≡ (is_some r.room || in_rooms session rs)
+mine_first session r rs mine =
+    elim (is_some r.room) as (λ b. list_any (λ n. nat_eq n session) (map (λ (t : Open). t.session) (cond b (r ∷ filter (λ (t : Open). is_some t.room) rs) (filter (λ (t : Open). is_some t.room) rs))) ≡ (b || in_rooms session rs)) [
+      | true ↦ ap (λ (b : Bool). b || in_rooms session rs) mine
+      | false ↦ refl
+    ]
+
+kept_if : (a b c : Bool) → b ≡ false → c ≡ true → (a || b) ≡ (a && c)
+kept_if true b c none there = sym there
+kept_if false b c none there = none
+
+-- the session's transaction goes on, with room if it had room
+pub turned_rooms : (session : ℕ) (rs : List Open) (place : ℕ) (r s : Open) → HaveOwnSessions rs → IsAt session rs place → r ≡ get_or rs place r → s.session ≡ r.session → is_some s.room ≡ is_some r.room → KeepsRooms session rs (s ∷ remove rs place)
+turned_rooms session rs place r s own at is same kept =
+    let left = remove rs place in
+    let mine : nat_eq s.session session ≡ true = ap (λ (n : ℕ). nat_eq n session) same ∙ session_at session rs place r at is in
+    let none = none_left session rs place own at in
+    let P : ℕ → Type 0 = λ m. IsNoSession m left in
+    record {
+      own = (subst P (sym (same_number s.session session mine)) none, own_left rs place own);
+      kept = mine_first session s left mine ∙ kept_if (is_some s.room) (in_rooms session left) (has_open session (s ∷ left)) (no_room session left none) (ap (λ (b : Bool). b || has_open session left) mine)
+          ∙ ap (λ (b : Bool). b && has_open session (s ∷ left)) (kept ∙ sym (room_at session rs place r own at is));
+      others = λ other differ. rooms_step other s left (apart s.session other (λ e. differ (sym e ∙ same_number s.session session mine))) ∙ other_rooms session other rs place at differ;
+    }
+
+-- the session's transaction has other parts
+pub part_rooms : (session : ℕ) (rs : List Open) (place : ℕ) (r : Open) (n : ℕ) → HaveOwnSessions rs → IsAt session rs place → r ≡ get_or rs place r → LeavesRooms session rs (record r { parts = n } ∷ remove rs place)
+part_rooms session rs place r n own at is = record {
+  keeps = turned_rooms session rs place r (record r { parts = n }) own at is refl refl;
+  ready = λ all. (ready_at session rs place r at is all, all_left IsReady rs place all);
+  less = λ g weight. omega (arith, total_left g session rs place r at is, weight.parts r n);
+}
+
+part_open : (o : ℕ × Transaction) (r : Open) → IsOpen o r → IsOpen (o.0, record o.1 { parts = o.1.parts + 1 }) (record r { parts = r.parts + 1 })
+part_open o r is = record {
+  session = is.session;
+  explicit = is.explicit;
+  number = is.number;
+  snapshot = is.snapshot;
+  parts = ap (λ (n : ℕ). n + 1) is.parts;
+  removed = is.removed;
+  ascending = is.ascending;
+  added = is.added;
+}
 
 -- a refusal of the session's transaction
 
@@ -248,15 +346,15 @@ stop_single session st rs place r open_ own at is single =
 chosen : (P : State → Type 0) (b : Bool) (x y : State) → b ≡ true → P x → P (if b && not false then x else y)
 chosen P b x y e p = subst (λ (c : Bool). P (if c && not false then x else y)) (sym e) p
 
-pub stop_explicit : (session : ℕ) (st : State) (rs : List Open) (place : ℕ) (r s : Open) → AreOpen st.running rs → HaveOwnSessions rs → IsAt session rs place → r ≡ get_or rs place r → r.explicit ≡ true →
-    ((o : ℕ × Transaction) → IsOpen o r → IsOpen (o.0, record o.1 { parts = o.1.parts + 1 }) s) → AreOpen (after_stop session false st).running (s ∷ remove rs place)
-stop_explicit session st rs place r s open_ own at is explicit step =
+pub stop_explicit : (session : ℕ) (st : State) (rs : List Open) (place : ℕ) (r : Open) → AreOpen st.running rs → HaveOwnSessions rs → IsAt session rs place → r ≡ get_or rs place r → r.explicit ≡ true →
+    AreOpen (after_stop session false st).running (record r { parts = r.parts + 1 } ∷ remove rs place)
+stop_explicit session st rs place r open_ own at is explicit =
     let found = open_at session st.running rs place r open_ at is in
     let opened : transaction st session ≡ Some found.transaction = found.opened in
     let stays : found.transaction.explicit ≡ true = sym found.is.explicit ∙ explicit in
     let t = found.transaction in
-    rw opened (chosen (λ s'. AreOpen s'.running (s ∷ remove rs place)) t.explicit (turned session (record t { parts = t.parts + 1 }) st) (ended session st) stays
-    (step (session, t) found.is, without_open session st.running rs place open_ own at))
+    rw opened (chosen (λ s'. AreOpen s'.running (record r { parts = r.parts + 1 } ∷ remove rs place)) t.explicit (turned session (record t { parts = t.parts + 1 }) st) (ended session st) stays
+    (part_open (session, t) r found.is, without_open session st.running rs place open_ own at))
 
 pub part_fits : (session : ℕ) (st : State) (rs : List Open) (place : ℕ) (r : Open) → AreOpen st.running rs → IsAt session rs place → r ≡ get_or rs place r → HasPart st session → r.parts + 1 < 2 ^ 32
 part_fits session st rs place r open_ at is fits =
@@ -265,25 +363,14 @@ part_fits session st rs place r open_ at is fits =
     let some : found.transaction.parts + 1 < 2 ^ 32 = subst P found.opened fits in
     omega (arith, some, found.is.parts)
 
-pub mine_at : (session : ℕ) (st : State) (rs : List Open) (place : ℕ) (r s : Open) → AreOpen st.running rs → IsAt session rs place → r ≡ get_or rs place r →
-    ((o : ℕ × Transaction) → IsOpen o r → IsOpen (o.0, record o.1 { parts = o.1.parts + 1 }) s) → nat_eq s.session session ≡ true
-mine_at session st rs place r s open_ at is step =
-    let found = open_at session st.running rs place r open_ at is in
-    ap (λ (n : ℕ). nat_eq n session) (step (session, found.transaction) found.is).session ∙ number_self session
-
--- where room is reserved for a session
+-- two names of what stands at a place
+pub at_once : (session : ℕ) (rs : List Open) (place : ℕ) (r s : Open) → IsAt session rs place → r ≡ get_or rs place r → s ≡ get_or rs place s → r ≡ s
+at_once session [] place r s at is also = absurd at
+at_once session (x ∷ rs) zero r s at is also = is ∙ sym also
+at_once session (x ∷ rs) (suc place) r s at is also = at_once session rs place r s at.1 is also
 
 pub room_there : (session : ℕ) (rs : List Open) (place : ℕ) (r : Open) → HaveOwnSessions rs → IsAt session rs place → r ≡ get_or rs place r → in_rooms session rs ≡ true → is_some r.room ≡ true
-room_there session [] place r own at is reserved = absurd at
-room_there session (s ∷ rs) zero r own at is reserved =
-    let P : ℕ → Type 0 = λ n. IsNoSession n rs in
-    let none : in_rooms session rs ≡ false = no_room session rs (subst P (same_number s.session session at) own.0) in
-    ap (λ (t : Open). is_some t.room) is ∙
-    (elim (is_some s.room) as (λ b. list_any (λ n. nat_eq n session) (map (λ (t : Open). t.session) (cond b (s ∷ filter (λ (t : Open). is_some t.room) rs) (filter (λ (t : Open). is_some t.room) rs))) ≡ true → b ≡ true) [
-      | true ↦ λ e. refl
-      | false ↦ λ e. absurd cc
-    ] reserved)
-room_there session (s ∷ rs) (suc place) r own at is reserved = room_there session rs place r own.1 at.1 is (sym (rooms_step session s rs at.0) ∙ reserved)
+room_there session rs place r own at is reserved = sym (room_at session rs place r own at is) ∙ reserved
 
 pub entry_freed : (session : ℕ) (rs : List Open) (place : ℕ) (r : Open) → HaveOwnSessions rs → IsAt session rs place → r ≡ get_or rs place r → in_rooms session rs ≡ true → total entries_for (remove rs place) + 1 ≤ total entries_for rs
 entry_freed session rs place r own at is reserved =

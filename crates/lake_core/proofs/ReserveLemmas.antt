@@ -1,6 +1,6 @@
 -- Room for the rows that the parts of a transaction add.
 use Rattle.std.proofs.Common.{◌≡◌, ℕ, zero, suc, ◌+◌, ◌<◌, ◌≤◌, Bool, true, false, ◌||◌, Option, None, Some, List, [], ◌∷◌, length, get_or, take, refl, sym, ap, ◌∙◌, subst, arith, nat_eq, if◌then◌else◌}
-use Rattle.std.specs.Prelude.{IsSome, position, vec_len}
+use Rattle.std.specs.Prelude.{IsSome, OnOk, Result, Ok, Err, position, vec_len}
 use Rattle.std.specs.List.{list_any}
 use Rattle.lake_model.specs.declared.entries.Added.{Added}
 use Rattle.lake_model.specs.declared.entries.Entry.{Entry}
@@ -11,7 +11,7 @@ use Rattle.table_history.specs.Histories.{KeepsRoom, History, has_room, rows_for
 use Rattle.write_set_catalog.specs.Catalogs.{Catalogued}
 use Rattle.write_set_catalog.specs.declared.rows.CatRow.{CatRow}
 use Rattle.lake_core.specs.Homes.{HasRooms, IsHistory, IsHome, chronicle_of}
-use Rattle.lake_core.specs.Rooms.{AreOpen, HaveOwnSessions, IsRoomFor, IsWritten, catalog_rows_for, table_rows_for, total, with_room}
+use Rattle.lake_core.specs.Rooms.{AreOpen, HaveOwnSessions, IsRoomFor, IsWritten, catalog_rows_for, rows_needed, table_rows_for, total, with_room}
 use Rattle.lake_core.specs.declared.transactions.Open.{Open}
 use Rattle.lake_core.specs.declared.transactions.Room.{Room}
 use Rattle.lake_core.proofs.HomeLemmas.{few_rooms, fewer_rows}
@@ -41,30 +41,90 @@ none_for name (a ∷ as_) none = elim (same_text a.table name) as (λ b. (b || l
   | false ↦ λ e. none_for name as_ e
 ] none
 
--- for each table there is room for these rows beside those that are reserved
-abbrev HasRoomFor : List Open → List Added → History → List ℕ → Type 0
-HasRoomFor running added h name = has_room h.spares name (total (table_rows_for name) running + rows_for name added) ≡ true
+-- a table has the room that is needed
+abbrev HasRoomFor : (List ℕ → ℕ) → History → List ℕ → Type 0
+HasRoomFor need h name = has_room h.spares name (need name) ≡ true
 
-pub room_more : (running : List Open) (added : List Added) (h h' : History) (i : ℕ) (part : Added) → part ≡ get_or added i part → i < length added → KeepsRoom h h' → HasRoomFor running added h' part.table →
-    ((name : List ℕ) → list_any (λ a. same_text a.table name) (take i added) ≡ true → HasRoomFor running added h name) → (name : List ℕ) → list_any (λ a. same_text a.table name) (take (i + 1) added) ≡ true → HasRoomFor running added h' name
-room_more running added h h' i part is within keeps room before name some =
+-- one of the parts names the table
+abbrev names : List ℕ → List Added → Bool
+names name parts = list_any (λ a. same_text a.table name) parts
+
+pub room_more : (need : List ℕ → ℕ) (named : List Added) (h h' : History) (i : ℕ) (part : Added) → part ≡ get_or named i part → i < length named → KeepsRoom h h' → HasRoomFor need h' part.table →
+    ((name : List ℕ) → names name (take i named) ≡ true → HasRoomFor need h name) → (name : List ℕ) → names name (take (i + 1) named) ≡ true → HasRoomFor need h' name
+room_more need named h h' i part is within keeps room before name some =
     let next : i + 1 ≡ suc i = omega arith in
-    let some' : list_any (λ (a : Added). same_text a.table name) (take (suc i) added) ≡ true = ap (λ (n : ℕ). list_any (λ (a : Added). same_text a.table name) (take n added)) (sym next) ∙ some in
-    elim (list_any (λ (a : Added). same_text a.table name) (take i added)) as (λ b. list_any (λ (a : Added). same_text a.table name) (take i added) ≡ b → HasRoomFor running added h' name) [
-      | true ↦ λ e. keeps name (total (table_rows_for name) running + rows_for name added) (before name e)
-      | false ↦ λ e. subst (HasRoomFor running added h') (same_text_is part.table name (last_passes (λ (a : Added). same_text a.table name) added i part is within some' e)) room
+    let some' : names name (take (suc i) named) ≡ true = ap (λ (n : ℕ). names name (take n named)) (sym next) ∙ some in
+    elim (names name (take i named)) as (λ b. names name (take i named) ≡ b → HasRoomFor need h' name) [
+      | true ↦ λ e. keeps name (need name) (before name e)
+      | false ↦ λ e. subst (HasRoomFor need h') (same_text_is part.table name (last_passes (λ (a : Added). same_text a.table name) named i part is within some' e)) room
     ] refl
 
-pub room_all : (running : List Open) (added : List Added) (h h' : History) (i : ℕ) → length added ≤ i → KeepsRoom h h' → ((name : List ℕ) → list_any (λ a. same_text a.table name) (take i added) ≡ true → HasRoomFor running added h' name) →
-    ((name : List ℕ) → has_room h.spares name (total (table_rows_for name) running) ≡ true) → (name : List ℕ) → HasRoomFor running added h' name
-room_all running added h h' i past keeps made rooms name =
-    elim (list_any (λ (a : Added). same_text a.table name) added) as (λ b. list_any (λ (a : Added). same_text a.table name) added ≡ b → HasRoomFor running added h' name) [
-      | true ↦ λ e. made name (ap (λ (as_ : List Added). list_any (λ (a : Added). same_text a.table name) as_) (whole added i past) ∙ e)
-      | false ↦ λ e. ap (λ (n : ℕ). has_room h'.spares name n) (more (total (table_rows_for name) running) (rows_for name added) (none_for name added e)) ∙ keeps name (total (table_rows_for name) running) (rooms name)
+-- a part of a table that is named already makes no difference
+
+named_more : (name : List ℕ) (parts : List Added) (i : ℕ) (part : Added) → part ≡ get_or parts i part → i < length parts → names part.table (take i parts) ≡ true → names name (take (suc i) parts) ≡ true → names name (take i parts) ≡ true
+named_more name parts i part is within before some =
+    elim (names name (take i parts)) as (λ b. names name (take i parts) ≡ b → b ≡ true) [
+      | true ↦ λ e. refl
+      | false ↦ λ e.
+          let same = same_text_is part.table name (last_passes (λ (a : Added). same_text a.table name) parts i part is within some e) in
+          sym e ∙ subst (λ (n : List ℕ). names n (take i parts) ≡ true) same before
     ] refl
+
+pub room_again : (need : List ℕ → ℕ) (named : List Added) (h : History) (i : ℕ) (part : Added) → part ≡ get_or named i part → i < length named → names part.table (take i named) ≡ true → ((name : List ℕ) → names name (take i named) ≡ true → HasRoomFor need h name) →
+    (name : List ℕ) → names name (take (i + 1) named) ≡ true → HasRoomFor need h name
+room_again need named h i part is within before made name some =
+    let next : i + 1 ≡ suc i = omega arith in
+    made name (named_more name named i part is within before (ap (λ (n : ℕ). names name (take n named)) (sym next) ∙ some))
+
+pub there_is : (parts : List Added) (i : ℕ) → i < length parts → (part : Added) × (part ≡ get_or parts i part)
+there_is [] i within = absurd (omega arith)
+there_is (x ∷ xs) zero within = (x, refl)
+there_is (x ∷ xs) (suc i) within = there_is xs i (omega arith)
+
+-- the part at an earlier place is among the first
+among_first : (p : Added → Bool) (parts : List Added) (i j : ℕ) (part : Added) → part ≡ get_or parts i part → i < j → i < length parts → p part ≡ true → list_any p (take j parts) ≡ true
+among_first p [] i j part is before within passes = absurd (omega arith)
+among_first p (x ∷ xs) zero zero part is before within passes = absurd (omega arith)
+among_first p (x ∷ xs) (suc i) zero part is before within passes = absurd (omega arith)
+among_first p (x ∷ xs) zero (suc j) part is before within passes = let first : p x ≡ true = ap p (sym is) ∙ passes in rw first refl
+among_first p (x ∷ xs) (suc i) (suc j) part is before within passes = or_later (p x) (list_any p (take j xs)) (among_first p xs i j part is (omega arith) (omega arith) passes)
   where
-    more : (m n : ℕ) → n ≡ 0 → m + n ≡ m
-    more m n e = omega (arith, e)
+    or_later : (a b : Bool) → b ≡ true → (a || b) ≡ true
+    or_later true b e = refl
+    or_later false b e = e
+
+pub repeated : (parts : List Added) (i j : ℕ) (before part part' : Added) → before ≡ get_or parts i before → i < j → i < length parts → part ≡ get_or parts j part → part' ≡ get_or parts j part' → j < length parts → same_text before.table part.table ≡ true → names part'.table (take j parts) ≡ true
+repeated parts i j before part part' is lower within at also here same =
+    let P : Added → Type 0 = λ a. names a.table (take j parts) ≡ true in
+    subst P (once parts j part part' at also here) (among_first (λ (a : Added). same_text a.table part.table) parts i j before is lower within same)
+  where
+    once : (xs : List Added) (k : ℕ) (x y : Added) → x ≡ get_or xs k x → y ≡ get_or xs k y → k < length xs → x ≡ y
+    once [] k x y e f within = absurd (omega arith)
+    once (z ∷ zs) zero x y e f within = e ∙ sym f
+    once (z ∷ zs) (suc k) x y e f within = once zs k x y e f (omega arith)
+
+pub room_named : (need : List ℕ → ℕ) (named : List Added) (h : History) (i : ℕ) → length named ≤ i → ((name : List ℕ) → names name (take i named) ≡ true → HasRoomFor need h name) → (name : List ℕ) → names name named ≡ true → HasRoomFor need h name
+room_named need named h i past made name some = made name (ap (names name) (whole named i past) ∙ some)
+
+pub room_all : (running : List Open) (added more : List Added) (h h' h'' : History) → KeepsRoom h h' → KeepsRoom h' h'' → ((name : List ℕ) → names name added ≡ true → HasRoomFor (rows_needed running added more) h' name) →
+    ((name : List ℕ) → names name more ≡ true → HasRoomFor (rows_needed running added more) h'' name) → ((name : List ℕ) → has_room h.spares name (total (table_rows_for name) running) ≡ true) → (name : List ℕ) → HasRoomFor (rows_needed running added more) h'' name
+room_all running added more h h' h'' keeps keeps' first second rooms name =
+    let need = rows_needed running added more name in
+    elim (names name added) as (λ b. names name added ≡ b → has_room h''.spares name need ≡ true) [
+      | true ↦ λ e. keeps' name need (first name e)
+      | false ↦ λ e. elim (names name more) as (λ b. names name more ≡ b → has_room h''.spares name need ≡ true) [
+        | true ↦ λ f. second name f
+        | false ↦ λ f.
+            let m = total (table_rows_for name) running in
+            let same : need ≡ m = omega (arith, none_for name added e, none_for name more f) in
+            ap (λ (n : ℕ). has_room h''.spares name n) same ∙ keeps' name m (keeps name m (rooms name))
+      ] refl
+    ] refl
+
+-- what follows from an answer
+pub if_made : {X E : Type 0} {A B : Type 0} (r : Result X E) → (A → B) → OnOk r A → OnOk r B
+if_made (Ok x) f made = f made
+if_made (Err e) f made = made
 
 -- what room is made for
 

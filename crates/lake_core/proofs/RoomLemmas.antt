@@ -16,6 +16,22 @@ use Rattle.lake_core.specs.Rooms.{rows_share, units_of_rows}
 abbrev pub is_written : List ℕ → List ConflictUnit → Bool
 is_written table us = share_unit (whole_table table ∷ []) us
 
+-- the units of rows and of further rows
+pub units_append : (xs ys : List MarkedRow) (us : List ConflictUnit) → share_unit (units_of_rows (xs ++ ys)) us ≡ (share_unit (units_of_rows xs) us || share_unit (units_of_rows ys) us)
+units_append [] ys us = refl
+units_append (x ∷ xs) ys us =
+    let a = list_any (same_unit (whole_table x.mark.table)) us in
+    ap (λ (b : Bool). a || b) (units_append xs ys us) ∙ sym (or_assoc a (share_unit (units_of_rows xs) us) (share_unit (units_of_rows ys) us))
+
+-- what writes nothing at first writes what rows and then further rows write
+pub both_write : (none some all : List ConflictUnit → Bool) (xs ys : List MarkedRow) → ((us : List ConflictUnit) → none us ≡ false) → ((us : List ConflictUnit) → some us ≡ (none us || share_unit (units_of_rows xs) us)) →
+    ((us : List ConflictUnit) → all us ≡ (some us || share_unit (units_of_rows ys) us)) → (us : List ConflictUnit) → all us ≡ share_unit (units_of_rows (xs ++ ys)) us
+both_write none some all xs ys nothing first second us =
+    let x = share_unit (units_of_rows xs) us in
+    let y = share_unit (units_of_rows ys) us in
+    let only : some us ≡ x = first us ∙ ap (λ (b : Bool). b || x) (nothing us) in
+    second us ∙ ap (λ (b : Bool). b || y) only ∙ sym (units_append xs ys us)
+
 -- the marks of a table that has one already
 
 known : (a s : Bool) → (a || s) ≡ ((a || s) || (a || false))

@@ -10,7 +10,7 @@ use Rattle.lake_model.specs.State.{State, Noted, Transaction, after, after_fact,
 use Rattle.lake_model.specs.declared.entries.Change.{Change}
 use Rattle.lake_model.specs.Changes.{applied}
 use Rattle.lake_model.specs.Scopes.{TableSchemas}
-use Rattle.lake_model.specs.Versions.{Tables, Version, marked_rows_of}
+use Rattle.lake_model.specs.Versions.{Tables, Version}
 use Rattle.lake_model.specs.Writing.{schemas_of}
 use Rattle.lake_model.proofs.Lists.{all_filter, all_weaker}
 use Rattle.table_history.specs.Histories.{History, IsIn, change_from, tables_in}
@@ -99,27 +99,18 @@ seen_version session es h rs catalog spare number r there home =
     let is : r.snapshot ≡ t.snapshot = there.is.snapshot in
     (record { from = omega (arith, low, is); to = omega (arith, high, is, kept.counted) }, ap (tables_in h) is ∙ kept.tables t.snapshot low (omega (arith, high)))
 
-schemas_applied : (seq : ℕ) (change : Change) (tables : Tables) → schemas_of (applied seq change tables) ≡ schemas_of tables
+pub schemas_applied : (seq : ℕ) (change : Change) (tables : Tables) → schemas_of (applied seq change tables) ≡ schemas_of tables
 schemas_applied seq change [] = refl
 schemas_applied seq change (t ∷ ts) = ap (λ (ss : TableSchemas). (t.name, t.schema) ∷ ss) (schemas_applied seq change ts)
 
-pub schemas_seen : (session : ℕ) (es : List Noted) (h : History) (rs : List Open) (catalog : Catalogued) (spare number : ℕ) (r : Open) → OpenAt session (state es).running r → IsHome es h rs catalog spare number → schemas_of (tables_in h r.snapshot) ≡ schemas_of (view (state es) session)
-schemas_seen session es h rs catalog spare number r there home =
-    let st = state es in
-    let t = there.transaction in
-    let version = (seen_version session es h rs catalog spare number r there home).1 in
-    let opened : transaction st session ≡ Some t = there.opened in
-    ap schemas_of version ∙ sym (schemas_applied 0 t.pending (version_at st t.snapshot).tables)
-    ∙ sym (ap (λ (o : Option Transaction). schemas_of (option_map_or (λ u. applied 0 u.pending (version_at st u.snapshot).tables) o [])) opened)
-
--- what is kept of a transaction tells what it sees of a table
-pub rows_seen_same : (name : List ℕ) (session : ℕ) (es : List Noted) (h : History) (rs : List Open) (catalog : Catalogued) (spare number : ℕ) (r : Open) → OpenAt session (state es).running r → IsHome es h rs catalog spare number →
-    marked_rows_of name (applied 0 (change_from r.removed.items r.added.items) (tables_in h r.snapshot)) ≡ marked_rows_of name (view (state es) session)
-rows_seen_same name session es h rs catalog spare number r there home =
+-- what is kept of a transaction tells what it sees
+pub tables_seen : (session : ℕ) (es : List Noted) (h : History) (rs : List Open) (catalog : Catalogued) (spare number : ℕ) (r : Open) → OpenAt session (state es).running r → IsHome es h rs catalog spare number →
+    applied 0 (change_from r.removed.items r.added.items) (tables_in h r.snapshot) ≡ view (state es) session
+tables_seen session es h rs catalog spare number r there home =
     let st = state es in
     let t = there.transaction in
     let opened : transaction st session ≡ Some t = there.opened in
     let version = (seen_version session es h rs catalog spare number r there home).1 in
-    ap (λ (ts : Tables). marked_rows_of name (applied 0 (change_from r.removed.items r.added.items) ts)) version
-    ∙ ap (λ (ts : Tables). marked_rows_of name ts) (applied_same 0 r.removed.items r.added.items t.pending (version_at st t.snapshot).tables there.is.removed there.is.added)
-    ∙ sym (ap (λ (o : Option Transaction). marked_rows_of name (option_map_or (λ u. applied 0 u.pending (version_at st u.snapshot).tables) o [])) opened)
+    ap (λ (ts : Tables). applied 0 (change_from r.removed.items r.added.items) ts) version
+    ∙ applied_same 0 r.removed.items r.added.items t.pending (version_at st t.snapshot).tables there.is.removed there.is.added
+    ∙ sym (ap (λ (o : Option Transaction). option_map_or (λ u. applied 0 u.pending (version_at st u.snapshot).tables) o []) opened)

@@ -1,7 +1,8 @@
 -- A lake as its callers see it, and what a call adds to it.
-use Rattle.std.specs.Prelude.{◌≡◌, ◌≢◌, ℕ, ◌==◌, ◌<◌, ◌^◌, Bool, true, false, List, [], ◌∷◌, ◌++◌, IfSome}
+use Rattle.std.specs.Prelude.{◌≡◌, ◌≢◌, ℕ, ◌==◌, ◌<◌, ◌^◌, ◌&&◌, Bool, true, false, is_some, List, [], ◌∷◌, ◌++◌, IfSome}
 use Rattle.std.specs.List.{list_any}
 use Rattle.lake_model.specs.declared.entries.Fact.{Fact}
+use Rattle.lake_model.specs.Allowed.{IsLegal}
 use Rattle.lake_model.specs.State.{State, Noted, state, transaction, next_part}
 use Rattle.lake_core.specs.declared.who.Who.{Who}
 
@@ -27,10 +28,12 @@ has_room lake session = list_any (λ s. s == session) lake.rooms
 abbrev pub noted : Who → Fact → Noted
 noted who f = record { entry = record { session = who.session; place = who.place; fact = f }; ends = false }
 
--- The lake has one entry more. It uses up the room of its session, and every other session keeps its room.
+-- The lake has one entry more, which was allowed. Its session keeps the room that is reserved for it as long as its
+-- transaction is open, and every other session keeps its room.
 pub record Adds (old new : Lake) (who : Who) (f : Fact) : Type 0 where
   pub entries : new.entries ≡ old.entries ++ noted who f ∷ []
-  pub used : has_room new who.session ≡ false
+  pub legal : IsLegal new.entries
+  pub kept : has_room new who.session ≡ (has_room old who.session && is_some (transaction (state_of new) who.session))
   pub others : (session : ℕ) → session ≢ who.session → has_room new session ≡ has_room old session
 
 -- if the session has a transaction, BEGIN opened it

@@ -1,8 +1,9 @@
 -- What a lake keeps of open transactions, and what room is reserved for them.
-use Rattle.std.specs.Prelude.{◌≡◌, ◌≢◌, ◌≤◌, ℕ, zero, suc, ◌+◌, Bool, false, ◌&&◌, List, [], ◌∷◌, ◌++◌, None, Some, map, filter, length, vec_len, is_some, IfSome, if◌then◌else◌, nat_eq}
+use Rattle.std.specs.Prelude.{◌≡◌, ◌≢◌, ◌≤◌, ℕ, zero, suc, ◌+◌, Bool, false, ◌&&◌, List, [], ◌∷◌, ◌++◌, None, Some, map, filter, length, vec_len, vec_capacity, is_some, IfSome, if◌then◌else◌, nat_eq}
 use Rattle.std.specs.List.{AllByRecursion, list_any}
 use Rattle.std.specs.Option.{option_map_or}
 use Rattle.lake_values.specs.Schemas.{TableColumns}
+use Rattle.lake_model.specs.declared.entries.Added.{Added}
 use Rattle.lake_model.specs.declared.entries.Change.{Change}
 use Rattle.lake_model.specs.declared.entries.Entry.{Entry}
 use Rattle.lake_model.specs.declared.entries.MarkedRow.{MarkedRow}
@@ -14,6 +15,7 @@ use Rattle.write_set_catalog.specs.declared.rows.CatRow.{CatRow}
 use Rattle.write_set_catalog.specs.Rows.{units_of_marks, units_of_row}
 use Rattle.table_history.specs.Histories.{NamesTables, rows_for}
 use Rattle.table_history.specs.Strikes.{IsAscending}
+use Rattle.lake_core.specs.declared.further.Further.{Further}
 use Rattle.lake_core.specs.declared.transactions.Open.{Open}
 use Rattle.lake_core.specs.declared.transactions.Room.{Room}
 
@@ -93,9 +95,22 @@ catalog_rows_for r = option_map_or (λ room. vec_len room.rows) r.room 0
 abbrev pub table_rows_for : List ℕ → Open → ℕ
 table_rows_for name r = if is_some r.room then rows_for name r.added.items else 0
 
+-- the rows of a table that are reserved, and those that these parts add to it
+abbrev pub rows_needed : List Open → List Added → List Added → List ℕ → ℕ
+rows_needed rs added more name = total (table_rows_for name) rs + (rows_for name added + rows_for name more)
+
 -- the sessions for which room is reserved
 abbrev pub rooms_of : List Open → List ℕ
 rooms_of rs = map (λ r. r.session) (filter (λ r. is_some r.room) rs)
+
+-- what a further statement changes, with memory for what its transaction changed before
+pub record IsFurther (before : Open) (change : Change) (more : Further) : Type 0 where
+  pub removed : more.removed.items ≡ committed change.removed
+  pub own : more.own.items ≡ own change.removed
+  pub added : more.added.items ≡ change.added
+  pub none : more.parts.items ≡ []
+  pub removed_room : vec_len before.removed + vec_len more.removed ≤ vec_capacity more.removed
+  pub parts_room : vec_len before.added + vec_len more.added ≤ vec_capacity more.parts
 
 -- what is pending after a further statement
 pub record IsPended (old new : Open) (change : Change) : Type 0 where
@@ -103,7 +118,6 @@ pub record IsPended (old new : Open) (change : Change) : Type 0 where
   pub explicit : new.explicit ≡ old.explicit
   pub number : new.number ≡ old.number
   pub snapshot : new.snapshot ≡ old.snapshot
-  pub parts : new.parts ≡ old.parts
   pub removed : SameBag new.removed.items (old.removed.items ++ committed change.removed)
   pub ascending : IsAscending new.removed.items
   pub added : new.added.items ≡ additions_left (own change.removed) old.added.items ++ change.added
@@ -117,17 +131,26 @@ pub record IsWritten (st : State) (rows : List CatRow) : Type 0 where
 abbrev pub in_rooms : ℕ → List Open → Bool
 in_rooms session rs = list_any (λ n. nat_eq n session) (rooms_of rs)
 
--- a transaction for which no room is reserved weighs nothing
-abbrev pub NeedsRoom : (Open → ℕ) → Type 0
-NeedsRoom g = (r : Open) → r.room ≡ None → g r ≡ 0
+-- the session has a transaction
+abbrev pub has_open : ℕ → List Open → Bool
+has_open session rs = list_any (λ r. nat_eq r.session session) rs
 
--- the session has no room any more, every other session has its own, and no more is reserved than before
-pub record LeavesRooms (session : ℕ) (old new : List Open) : Type 0 where
+-- a weight of what is reserved: a transaction for which no room is reserved weighs nothing, and parts don't count
+pub record IsReservedWeight (g : Open → ℕ) : Type 0 where
+  pub none : (r : Open) → r.room ≡ None → g r ≡ 0
+  pub parts : (r : Open) (n : ℕ) → g (record r { parts = n }) ≡ g r
+
+-- the session keeps its room as long as it has a transaction, and every other session has its own
+pub record KeepsRooms (session : ℕ) (old new : List Open) : Type 0 where
   pub own : HaveOwnSessions new
-  pub used : in_rooms session new ≡ false
+  pub kept : in_rooms session new ≡ (in_rooms session old && has_open session new)
   pub others : (other : ℕ) → other ≢ session → in_rooms other new ≡ in_rooms other old
+
+-- rooms are kept, and no more is reserved than before
+pub record LeavesRooms (session : ℕ) (old new : List Open) : Type 0 where
+  pub keeps : KeepsRooms session old new
   pub ready : AllByRecursion IsReady old → AllByRecursion IsReady new
-  pub less : (g : Open → ℕ) → NeedsRoom g → total g new ≤ total g old
+  pub less : (g : Open → ℕ) → IsReservedWeight g → total g new ≤ total g old
 
 -- the transactions, with room that is kept for the one at a place
 abbrev pub with_room : Room → List Open → ℕ → List Open

@@ -1,12 +1,14 @@
 ghost use Rattle.std.specs.Prelude.{◌≡◌, ◌+◌, ◌<◌, ◌≤◌, ◌^◌, ◌++◌, ◌&&◌, ℕ, List, Some, true, is_some, map, length, vec_len};
-ghost use Rattle.lake_core.specs.Rooms.{IsRoomFor, stamped};
+ghost use Rattle.lake_core.specs.Homes.{IsHistory};
+ghost use Rattle.lake_core.specs.Rooms.{AreOpen, IsRoomFor, stamped};
+ghost use Rattle.lake_model.specs.State.{State};
 ghost use Rattle.lake_model.specs.Changes as changes;
-ghost use Rattle.table_history.specs.Histories.{GrowsBy, change_from, has_room, last_of, newest_of, rows_for};
+ghost use Rattle.table_history.specs.Histories.{GrowsBy, KeepsRoom, change_from, has_room, last_of, newest_of, rows_for};
 ghost use Rattle.table_history.specs.Strikes.{IsAscending};
 ghost use Rattle.write_set_catalog.specs.Catalogs.{IsBehind};
 
 use crate::transactions::{Open, Room};
-use lake_model::{Added, MarkedRow};
+use lake_model::{Added, MarkedRow, Marks};
 use table_history::History;
 use write_set_catalog::{CatRow, Catalog};
 
@@ -51,15 +53,23 @@ impl Ready {
     }
 }
 
-/// Makes what a transaction changed the next version, and answers its number. It takes no memory.
-pub fn apply(history: &mut History, catalog: &mut Catalog, ready: Ready) -> u64
+/// A version that a commit made.
+#[derive(Debug, Drop)]
+pub struct Applied {
+    pub seq: u64,
+    /// A mark of each table from which it removed rows.
+    pub marks: Marks,
+}
+
+/// Makes what a transaction changed the next version. It takes no memory.
+pub fn apply(history: &mut History, catalog: &mut Catalog, ready: Ready) -> Applied
     requires ready { IsRoomFor ready.removed.items ready.room }
     requires ascending { IsAscending ready.removed.items }
     requires small { last_of history.old + 1 < 2 ^ 62 }
     requires behind { IsBehind catalog.old.rows (last_of history.old + 1) }
     requires tables { (name : List ℕ) → has_room history.old.spares name (rows_for name ready.added.items) ≡ true }
     requires spare { vec_len ready.room.rows ≤ catalog.old.spare }
-    ensures seq { result ≡ last_of history.old + 1 }
+    ensures seq { result.seq ≡ last_of history.old + 1 }
     ensures made { GrowsBy history.old history.new (changes.applied (last_of history.old + 1) (change_from ready.removed.items ready.added.items) (newest_of history.old)) }
     ensures tables { (name : List ℕ) (rows : ℕ) → has_room history.old.spares name (rows_for name ready.added.items + rows) ≡ true → has_room history.new.spares name rows ≡ true }
     ensures rows { catalog.new.rows ≡ catalog.old.rows ++ map (stamped (last_of history.old + 1)) ready.room.rows.items }
@@ -79,7 +89,18 @@ pub fn apply(history: &mut History, catalog: &mut Catalog, ready: Ready) -> u64
     let seq = history.last() + 1;
     history.commit(&marks, removed.as_slice(), &mut used, added);
     record(catalog, seq, rows);
-    seq
+    Applied { seq, marks }
+}
+
+/// Lets earlier versions go where no transaction is open that could see them, with their rows in the tables that the marks
+/// name.
+pub fn forget_unseen(history: &mut History, running: &[Open], marks: &Marks)
+    ensures versions { (st : State) → AreOpen st.running running.now → IsHistory st history.old → IsHistory st history.new }
+    ensures rooms { KeepsRoom history.old history.new }
+{
+    if running.is_empty() {
+        history.forget(marks);
+    }
 }
 
 /// Says in the catalogue what a commit wrote.

@@ -1,9 +1,13 @@
 ghost use Rattle.std.specs.Prelude.{◌≡◌, [], IfOk};
 ghost use Rattle.lake_core.specs.Facts as facts;
+ghost use Rattle.lake_core.specs.Rooms.{IsFurther};
+ghost use Rattle.lake_model.specs.State.{parts_of};
 ghost use Rattle.lake_model.specs.declared.entries.Fact.TheVariants as fact;
 
+use crate::further::Further;
+use crate::transactions::Open;
 use crate::who::Who;
-use lake_model::{Entry, Fact, Reply};
+use lake_model::{Change, Entry, Fact, Reply};
 use lake_values::{Listed, NoMemory, Schema, Text};
 use std::alloc::Global;
 
@@ -65,5 +69,48 @@ impl Creation {
                 seq,
             },
         })
+    }
+}
+
+/// What a statement that ran hands on: to the chronicle, to its transaction and to the session.
+#[derive(Debug, Drop)]
+pub struct Ran {
+    pub did: Entry,
+    pub more: Further,
+    pub reply: Reply,
+}
+
+impl Ran {
+    pub fn of(
+        alloc: Global,
+        who: Who,
+        reply: Reply,
+        change: Change,
+        before: &Open,
+    ) -> Result<Ran, NoMemory>
+        ensures entry { IfOk result (λ ran. ran.did ≡ record { session = who.session; place = who.place; fact = fact.Ran reply change }) }
+        ensures further { IfOk result (λ ran. IsFurther before.now change ran.more) }
+        ensures reply { IfOk result (λ ran. ran.reply ≡ reply) }
+    {
+        let did = Fact::Ran {
+            reply: reply.copy(alloc)?,
+            change: change.copy(alloc)?,
+        };
+        let more = Further::of(alloc, change, before)?;
+        Ok(Ran {
+            did: entry(who, did),
+            more,
+            reply,
+        })
+    }
+}
+
+/// How many parts a statement makes that answers so: a write makes one.
+pub fn parts_of(reply: &Reply) -> u32
+    ensures { result ≡ parts_of reply.now }
+{
+    match reply {
+        Reply::Wrote { .. } => 1,
+        _ => 0,
     }
 }

@@ -1,37 +1,36 @@
-ghost use Rattle.std.specs.Prelude.{◌≡◌, ◌≢◌, ◌+◌, ◌<◌, ◌≤◌, ◌^◌, ℕ, [], ◌∷◌, true, false, None, Some, IsNone, IsSome, IfOk, IfSome, OnOk, OnErr, length, map};
+ghost use Rattle.std.specs.Prelude.{◌≡◌, ◌≢◌, ◌+◌, ◌<◌, ◌≤◌, ◌^◌, ℕ, [], ◌∷◌, true, false, Ok, None, Some, IsNone, IsSome, IfOk, IfSome, OnOk, OnErr, length, map};
 ghost use Rattle.std.specs.Option.{option_map};
 ghost use Rattle.lake_model.specs.Allowed.{IsAllowedRefusal, IsLegal};
-ghost use Rattle.lake_model.specs.State.{is_inside, last, newest, transaction, view};
-ghost use Rattle.lake_core.specs.Rooms.{table_rows_for, total};
-ghost use Rattle.lake_model.specs.Versions.{has_table, marked_rows_of};
-ghost use Rattle.table_history.specs.Stores.{marked_of};
-ghost use Rattle.lake_model.specs.Writing.{schemas_of};
+ghost use Rattle.lake_model.specs.State.{is_inside, last, newest, next_part, transaction, view};
+ghost use Rattle.lake_model.specs.Versions.{has_table};
+ghost use Rattle.lake_model.specs.Writing.{effect_of};
 ghost use Rattle.lake_model.specs.declared.entries.Fact.TheVariants as fact;
 ghost use Rattle.lake_core.specs.Facts as facts;
 ghost use Rattle.lake_core.specs.Lakes.{Adds, HasPart, IsExplicit, has_room, new_lake, state_of};
 ghost use Rattle.lake_core.specs.Opened.{opened};
 
 use crate::chronicles::Chronicle;
-use crate::commits::{Ready, apply};
-use crate::entries::{Creation, committed, entry};
+use crate::commits::{Applied, Ready, apply, forget_unseen};
+use crate::entries::{Creation, Ran, committed, entry, parts_of};
+use crate::further::Further;
 use crate::opened::OpenTxn;
-use crate::reservations::{room_beside, room_for};
-use crate::transactions::{Open, end, place_of, put_first, put_room, stop, take_reserved};
-use crate::views::view_rows;
+use crate::reservations::{room_again, room_beside, room_for};
+use crate::transactions::{Open, end, place_of, put_first, put_room, stop, take, take_reserved};
+use crate::views::Lent;
 use crate::who::Who;
-use lake_model::{Entry, Fact, Refusal, Reply, Schemas};
+use lake_model::{Bound, Change, Fact, Refusal, Reply};
 use lake_outside::Port;
 use lake_values::{NoMemory, Schema, Text};
 use std::alloc::Global;
 use std::marker::{Model, PhantomData};
-use table_history::{History, ViewRow};
+use table_history::History;
 use write_set_catalog::Catalog;
 
 /// A lake: its chronicle, its versions and its open transactions.
 ///
 /// The chronicle is always legal. Each call that takes a `Who` appends one entry, of its session and at its place, and
 /// answers what that entry says; where it answers want of memory instead, the lake is as it was. Room that `reserve` made
-/// for a session lasts until the session's next entry, whatever other sessions do.
+/// for a session lasts as long as its transaction is open.
 #[derive(Drop)]
 pub struct LakeState<P: Port> {
     chronicle: Chronicle,
@@ -96,28 +95,13 @@ impl<P: Port> LakeState<P> {
         }
     }
 
-    /// The names of the tables that the session's transaction sees, with their schemas.
-    pub fn schemas(&self, alloc: Global, session: u32) -> Result<Schemas, NoMemory>
+    /// What the session's transaction sees, lent.
+    pub fn lend(&self, session: u32) -> Lent<'_>
         requires { IsSome (transaction (state_of self.now) session) }
-        ensures { IfOk result (λ schemas. schemas ≡ schemas_of (view (state_of self.now) session)) }
+        ensures { result ≡ view (state_of self.now) session }
     {
         let place = place_of(self.running.as_slice(), session).unwrap();
-        self.history.schemas(alloc, self.running[place].snapshot)
-    }
-
-    /// The rows of a table that the session's transaction sees, lent: those of its version that it didn't remove, and
-    /// behind them those that it added. A table that isn't there has none.
-    pub fn rows_seen(
-        &self,
-        alloc: Global,
-        session: u32,
-        table: &Text,
-    ) -> Result<Vec<ViewRow<'_>>, NoMemory>
-        requires { IsSome (transaction (state_of self.now) session) }
-        ensures { IfOk result (λ rows. map (marked_of table.now) rows.items ≡ marked_rows_of table.now (view (state_of self.now) session)) }
-    {
-        let place = place_of(self.running.as_slice(), session).unwrap();
-        view_rows(alloc, &self.history, &self.running[place], table)
+        Lent::of(&self.history, &self.running[place])
     }
 
     /// Creates a table outside a transaction, where no table has the name.
@@ -206,17 +190,57 @@ impl<P: Port> LakeState<P> {
         Ok(Reply::Begun { snapshot })
     }
 
+    /// Records what a statement of the session's transaction answered and changed, which is what the bound statement does
+    /// over what the transaction sees, as its next part. It answers the reply.
+    pub fn ran(
+        &mut self,
+        alloc: Global,
+        who: Who,
+        bound: &Bound,
+        reply: Reply,
+        change: Change,
+    ) -> Result<Reply, NoMemory>
+        requires few { length self.old.entries < 2 ^ 61 }
+        requires running { IsSome (transaction (state_of self.old) who.session) }
+        requires part { HasPart (state_of self.old) who.session }
+        requires effect { effect_of bound.now (view (state_of self.old) who.session) (next_part (state_of self.old) who.session) ≡ Ok (reply, change) }
+        ensures entry { OnOk result (Adds self.old self.new who (fact.Ran reply change)) }
+        ensures reply { IfOk result (λ answer. answer ≡ reply) }
+        ensures err { OnErr result (self.new ≡ self.old) }
+    {
+        let place = place_of(self.running.as_slice(), who.session).unwrap();
+        let ran = Ran::of(alloc, who, reply, change, &self.running[place])?;
+        let room = room_again(
+            alloc,
+            &mut self.chronicle,
+            &mut self.history,
+            &mut self.catalog,
+            self.running.as_slice(),
+            place,
+            &ran.more,
+        )?;
+        let Ran { did, more, reply } = ran;
+        self.chronicle.push(did);
+        let before = take(&mut self.running, place);
+        put_first(
+            &mut self.running,
+            before.after(more, parts_of(&reply), room),
+        );
+        Ok(reply)
+    }
+
     /// Makes room for the end of the session's transaction, so that a commit and a roll back take no memory.
     ///
     /// Where it answers want of memory, the lake is as it was.
     pub fn reserve(&mut self, alloc: Global, session: u32) -> Result<(), NoMemory>
-        requires open_ { IsSome (transaction (state_of self.old) session) }
+        requires running { IsSome (transaction (state_of self.old) session) }
         ensures entries { self.new.entries ≡ self.old.entries }
         ensures room { OnOk result (has_room self.new session ≡ true) }
         ensures others { (other : ℕ) → other ≢ session → has_room self.new other ≡ has_room self.old other }
         ensures err { OnErr result (self.new ≡ self.old) }
     {
         let place = place_of(self.running.as_slice(), session).unwrap();
+        let more = Further::nothing(alloc);
         let room = room_for(
             alloc,
             &mut self.chronicle,
@@ -224,6 +248,7 @@ impl<P: Port> LakeState<P> {
             &mut self.catalog,
             self.running.as_slice(),
             place,
+            &more,
         )?;
         put_room(&mut self.running, place, room);
         Ok(())
@@ -251,7 +276,8 @@ impl<P: Port> LakeState<P> {
             self.chronicle.push(entry(who, Fact::Conflict { seq }));
             return Reply::Conflict { seq };
         }
-        let seq = apply(&mut self.history, &mut self.catalog, ready);
+        let Applied { seq, marks } = apply(&mut self.history, &mut self.catalog, ready);
+        forget_unseen(&mut self.history, self.running.as_slice(), &marks);
         self.chronicle.push(entry(who, committed(alloc, seq)));
         Reply::Committed { seq }
     }

@@ -5,6 +5,7 @@
 mod chronicles;
 mod commits;
 mod entries;
+mod further;
 mod lakes;
 mod opened;
 mod reservations;
@@ -16,4 +17,5 @@ mod who;
 pub use chronicles::Chronicle;
 pub use lakes::LakeState;
 pub use opened::OpenTxn;
+pub use views::Lent;
 pub use who::Who;

@@ -1,8 +1,13 @@
-ghost use Rattle.std.specs.Prelude.{◌≡◌, ◌+◌, ◌<◌, ◌≤◌, ℕ, List, true, IfOk, OnOk, get_or, length, vec_len};
-ghost use Rattle.lake_core.specs.Rooms.{IsRoomFor, catalog_rows_for, table_rows_for, total};
-ghost use Rattle.table_history.specs.Histories.{KeepsRoom, has_room, rows_for};
+ghost use Rattle.std.specs.Prelude.{◌≡◌, ◌+◌, ◌<◌, ◌≤◌, ◌++◌, ℕ, List, true, IfOk, IfSome, OnOk, get_or, is_some, length, take, vec_len};
+ghost use Rattle.lake_model.specs.declared.entries.Added.{Added as Part};
+ghost use Rattle.std.specs.List.{list_any};
+ghost use Rattle.std.specs.Option.{option_map_or};
+ghost use Rattle.lake_core.specs.Rooms.{IsRoomFor, catalog_rows_for, rows_needed, table_rows_for, total};
+ghost use Rattle.lake_model.specs.Versions.{same_text};
+ghost use Rattle.table_history.specs.Histories.{KeepsRoom, has_room};
 
 use crate::chronicles::Chronicle;
+use crate::further::Further;
 use crate::transactions::{Open, Room, rows_added};
 use lake_model::Added;
 use lake_values::{NoMemory, Text};
@@ -10,7 +15,7 @@ use std::alloc::Global;
 use table_history::History;
 use write_set_catalog::Catalog;
 
-/// Makes what the commit of one of the transactions needs beside what is reserved already.
+/// Makes what the commit of one of the transactions needs after a further statement of it, beside what is reserved already.
 pub fn room_for(
     alloc: Global,
     chronicle: &mut Chronicle,
@@ -18,6 +23,7 @@ pub fn room_for(
     catalog: &mut Catalog,
     running: &[Open],
     place: usize,
+    more: &Further,
 ) -> Result<Room, NoMemory>
     requires within { place < length running.now }
     ensures entries { chronicle.new.entries ≡ chronicle.old.entries }
@@ -27,17 +33,60 @@ pub fn room_for(
     ensures tables { history.new.tables ≡ history.old.tables }
     ensures history_keeps { KeepsRoom history.old history.new }
     ensures tables_room { ((name : List ℕ) → has_room history.old.spares name (total (table_rows_for name) running.now) ≡ true) → (open_ : Open) → open_ ≡ get_or running.now place open_ →
-        IfOk result (λ room. (name : List ℕ) → has_room history.new.spares name (total (table_rows_for name) running.now + rows_for name open_.added.items) ≡ true) }
+        IfOk result (λ room. (name : List ℕ) → has_room history.new.spares name (rows_needed running.now open_.added.items more.now.added.items name) ≡ true) }
     ensures rows { catalog.new.rows ≡ catalog.old.rows }
     ensures catalog_keeps { total catalog_rows_for running.now ≤ catalog.old.spare → total catalog_rows_for running.now ≤ catalog.new.spare }
     ensures rows_room { IfOk result (λ room. total catalog_rows_for running.now + vec_len room.rows ≤ catalog.new.spare) }
-    ensures made { (open_ : Open) → open_ ≡ get_or running.now place open_ → IfOk result (IsRoomFor open_.removed.items) }
+    ensures made { (open_ : Open) → open_ ≡ get_or running.now place open_ → IfOk result (IsRoomFor (open_.removed.items ++ more.now.removed.items)) }
 {
     let transaction = &running[place];
-    let room = Room::of(alloc, transaction.removed.as_slice())?;
+    let room = Room::of(
+        alloc,
+        transaction.removed.as_slice(),
+        more.removed.as_slice(),
+    )?;
     chronicle.reserve(running.len())?;
     reserve_rows(catalog, running, room.rows.len())?;
-    reserve_tables(history, running, transaction.added.as_slice())?;
+    reserve_tables(
+        history,
+        running,
+        transaction.added.as_slice(),
+        more.added.as_slice(),
+    )?;
+    Ok(room)
+}
+
+/// Makes the room of one of the transactions anew, if it has room, as it is needed after a further statement; and room for
+/// an entry beside those of all transactions.
+pub fn room_again(
+    alloc: Global,
+    chronicle: &mut Chronicle,
+    history: &mut History,
+    catalog: &mut Catalog,
+    running: &[Open],
+    place: usize,
+    more: &Further,
+) -> Result<Option<Room>, NoMemory>
+    requires within { place < length running.now }
+    ensures entries { chronicle.new.entries ≡ chronicle.old.entries }
+    ensures chronicle_keeps { chronicle.old.spare ≤ chronicle.new.spare }
+    ensures entries_room { OnOk result (1 + length running.now ≤ chronicle.new.spare) }
+    ensures first { history.new.first ≡ history.old.first }
+    ensures tables { history.new.tables ≡ history.old.tables }
+    ensures history_keeps { KeepsRoom history.old history.new }
+    ensures tables_room { ((name : List ℕ) → has_room history.old.spares name (total (table_rows_for name) running.now) ≡ true) → (open_ : Open) → open_ ≡ get_or running.now place open_ →
+        IfOk result (λ room. is_some open_.room ≡ true → (name : List ℕ) → has_room history.new.spares name (rows_needed running.now open_.added.items more.now.added.items name) ≡ true) }
+    ensures rows { catalog.new.rows ≡ catalog.old.rows }
+    ensures catalog_keeps { total catalog_rows_for running.now ≤ catalog.old.spare → total catalog_rows_for running.now ≤ catalog.new.spare }
+    ensures rows_room { total catalog_rows_for running.now ≤ catalog.old.spare → IfOk result (λ room. total catalog_rows_for running.now + option_map_or (λ made. vec_len made.rows) room 0 ≤ catalog.new.spare) }
+    ensures made { (open_ : Open) → open_ ≡ get_or running.now place open_ → IfOk result (λ room. IfSome room (IsRoomFor (open_.removed.items ++ more.now.removed.items))) }
+    ensures kept { (open_ : Open) → open_ ≡ get_or running.now place open_ → IfOk result (λ room. is_some room ≡ is_some open_.room) }
+{
+    let room = match running[place].room {
+        Some(_) => Some(room_for(alloc, chronicle, history, catalog, running, place, more)?),
+        None => None,
+    };
+    chronicle.reserve(1 + running.len())?;
     Ok(room)
 }
 
@@ -47,10 +96,7 @@ fn reserve_rows(catalog: &mut Catalog, running: &[Open], more: usize) -> Result<
     ensures keeps { total catalog_rows_for running.now ≤ catalog.old.spare → total catalog_rows_for running.now ≤ catalog.new.spare }
     ensures room { OnOk result (total catalog_rows_for running.now + more ≤ catalog.new.spare) }
 {
-    let reserved = catalog_rows_reserved(running)?;
-    let Some(rows) = reserved.checked_add(more) else {
-        return Err(NoMemory);
-    };
+    let rows = sum(catalog_rows_reserved(running)?, more)?;
     catalog.reserve(rows)
 }
 
@@ -60,45 +106,104 @@ fn catalog_rows_reserved(running: &[Open]) -> Result<usize, NoMemory>
 {
     let mut rows: usize = 0;
     for transaction in running {
-        let Some(more) = rows.checked_add(transaction.catalog_rows()) else {
-            return Err(NoMemory);
-        };
-        rows = more;
+        rows = sum(rows, transaction.catalog_rows())?;
     }
     Ok(rows)
 }
 
-/// Makes room for these parts' rows in their tables, beside those that are reserved.
-fn reserve_tables(history: &mut History, running: &[Open], added: &[Added]) -> Result<(), NoMemory>
+/// Makes room for the rows of these parts and of those in their tables, beside what is reserved.
+fn reserve_tables(
+    history: &mut History,
+    running: &[Open],
+    added: &[Added],
+    more: &[Added],
+) -> Result<(), NoMemory>
     ensures first { history.new.first ≡ history.old.first }
     ensures tables { history.new.tables ≡ history.old.tables }
     ensures keeps { KeepsRoom history.old history.new }
     ensures room { ((name : List ℕ) → has_room history.old.spares name (total (table_rows_for name) running.now) ≡ true) →
-        OnOk result ((name : List ℕ) → has_room history.new.spares name (total (table_rows_for name) running.now + rows_for name added.now) ≡ true) }
+        OnOk result ((name : List ℕ) → has_room history.new.spares name (rows_needed running.now added.now more.now name) ≡ true) }
 {
-    for part in added {
-        reserve_table(history, running, added, &part.table)?;
+    reserve_named(history, running, added, more, added)?;
+    reserve_named(history, running, added, more, more)
+}
+
+/// Makes the room that parts need in the tables that some of them name.
+fn reserve_named(
+    history: &mut History,
+    running: &[Open],
+    added: &[Added],
+    more: &[Added],
+    named: &[Added],
+) -> Result<(), NoMemory>
+    ensures first { history.new.first ≡ history.old.first }
+    ensures tables { history.new.tables ≡ history.old.tables }
+    ensures keeps { KeepsRoom history.old history.new }
+    ensures room { OnOk result ((name : List ℕ) → list_any (λ a. same_text a.table name) named.now ≡ true → has_room history.new.spares name (rows_needed running.now added.now more.now name) ≡ true) }
+{
+    for place in 0..named.len() {
+        reserve_part(history, running, added, more, named, place)?;
     }
     Ok(())
 }
 
-/// Makes room for these parts' rows of a table, beside those that are reserved.
+/// Makes the room that parts need in the table of one of them, which was made already where the part before is of this
+/// table.
+fn reserve_part(
+    history: &mut History,
+    running: &[Open],
+    added: &[Added],
+    more: &[Added],
+    named: &[Added],
+    place: usize,
+) -> Result<(), NoMemory>
+    requires within { place < length named.now }
+    ensures first { history.new.first ≡ history.old.first }
+    ensures tables { history.new.tables ≡ history.old.tables }
+    ensures keeps { KeepsRoom history.old history.new }
+    ensures room { ((name : List ℕ) → list_any (λ a. same_text a.table name) (take place named.now) ≡ true → has_room history.old.spares name (rows_needed running.now added.now more.now name) ≡ true) →
+        OnOk result ((name : List ℕ) → list_any (λ a. same_text a.table name) (take (place + 1) named.now) ≡ true → has_room history.new.spares name (rows_needed running.now added.now more.now name) ≡ true) }
+{
+    if repeats(named, place) {
+        return Ok(());
+    }
+    reserve_table(history, running, added, more, &named[place].table)
+}
+
+/// Whether a part is of the table of the part before it.
+fn repeats(parts: &[Added], place: usize) -> bool
+    requires { place < length parts.now }
+    ensures { result ≡ true → (part : Part) → part ≡ get_or parts.now place part → list_any (λ a. same_text a.table part.table) (take place parts.now) ≡ true }
+{
+    match place.checked_sub(1) {
+        Some(before) => parts[before].table == parts[place].table,
+        None => false,
+    }
+}
+
+/// Makes the room that parts need in a table.
 fn reserve_table(
     history: &mut History,
     running: &[Open],
     added: &[Added],
+    more: &[Added],
     table: &Text,
 ) -> Result<(), NoMemory>
     ensures first { history.new.first ≡ history.old.first }
     ensures tables { history.new.tables ≡ history.old.tables }
     ensures keeps { KeepsRoom history.old history.new }
-    ensures room { OnOk result (has_room history.new.spares table.now (total (table_rows_for table.now) running.now + rows_for table.now added.now) ≡ true) }
+    ensures room { OnOk result (has_room history.new.spares table.now (rows_needed running.now added.now more.now table.now) ≡ true) }
 {
     let reserved = rows_reserved(running, table)?;
-    let Some(rows) = reserved.checked_add(rows_added(added, table)?) else {
-        return Err(NoMemory);
-    };
+    let rows = sum(reserved, rows_added(added, table)?)?;
+    let rows = sum(rows, rows_added(more, table)?)?;
     history.reserve(table, rows)
+}
+
+fn sum(a: usize, b: usize) -> Result<usize, NoMemory>
+    ensures { IfOk result (λ c. c ≡ a + b) }
+{
+    a.checked_add(b).ok_or(NoMemory)
 }
 
 /// Makes room for an entry beside those of the open transactions, and answers for how many rows of a table room is reserved
@@ -124,10 +229,7 @@ fn rows_reserved(running: &[Open], table: &Text) -> Result<usize, NoMemory>
 {
     let mut rows: usize = 0;
     for transaction in running {
-        let Some(more) = rows.checked_add(transaction.rows_reserved(table)?) else {
-            return Err(NoMemory);
-        };
-        rows = more;
+        rows = sum(rows, transaction.rows_reserved(table)?)?;
     }
     Ok(rows)
 }

@@ -1,6 +1,6 @@
 //! What is made for the commit of a transaction when room is reserved for it.
 
-ghost use Rattle.std.specs.Prelude.{◌≡◌, ◌==◌, ◌&&◌, ◌||◌, ◌∷◌, [], List, IfOk, OnOk};
+ghost use Rattle.std.specs.Prelude.{◌≡◌, ◌==◌, ◌&&◌, ◌||◌, ◌∷◌, ◌++◌, [], List, IfOk, OnOk};
 ghost use Rattle.lake_model.specs.Versions.{ConflictUnit, same_text, share_unit, whole_table};
 ghost use Rattle.write_set_catalog.specs.Rows.{units_of_marks, units_of_row};
 ghost use Rattle.lake_core.specs.Rooms.{IsRoomFor, rows_share, units_of_rows};
@@ -12,26 +12,35 @@ use std::alloc::Global;
 use write_set_catalog::CatRow;
 
 impl Room {
-    /// What the commit of a transaction needs that removed these rows, which stand in the order of their marks.
-    pub fn of(alloc: Global, removed: &[MarkedRow]) -> Result<Room, NoMemory>
-        ensures { IfOk result (λ room. IsRoomFor removed.now room) }
+    /// What the commit of a transaction needs that removed these rows and those.
+    ///
+    /// Where the rows of each table stand side by side, a table has one mark and one row of the catalogue.
+    pub fn of(alloc: Global, removed: &[MarkedRow], more: &[MarkedRow]) -> Result<Room, NoMemory>
+        ensures { IfOk result (λ room. IsRoomFor (removed.now ++ more.now) room) }
     {
-        let used = vec![in alloc; 0; removed.len()]?;
-        let marks = marks_of(alloc, removed)?;
-        let rows = rows_of(alloc, removed)?;
+        let Some(count) = removed.len().checked_add(more.len()) else {
+            return Err(NoMemory);
+        };
+        let used = vec![in alloc; 0; count]?;
+        let mut marks = Listed::empty(alloc);
+        put_tables(&mut marks, removed)?;
+        put_tables(&mut marks, more)?;
+        let mut rows = Vec::new(alloc);
+        put_marks(alloc, &mut rows, removed)?;
+        put_marks(alloc, &mut rows, more)?;
         Ok(Room { used, marks, rows })
     }
 }
 
-/// A mark of each table that rows are removed from.
-fn marks_of(alloc: Global, removed: &[MarkedRow]) -> Result<Marks, NoMemory>
-    ensures { IfOk result (λ marks. (us : List ConflictUnit) → share_unit (units_of_marks marks) us ≡ share_unit (units_of_rows removed.now) us) }
+/// Puts marks of the tables that rows are removed from behind others.
+fn put_tables(marks: &mut Marks, removed: &[MarkedRow]) -> Result<(), NoMemory>
+    ensures { OnOk result ((us : List ConflictUnit) → share_unit (units_of_marks marks.new) us
+        ≡ (share_unit (units_of_marks marks.old) us || share_unit (units_of_rows removed.now) us)) }
 {
-    let mut marks = Listed::empty(alloc);
     for row in removed {
-        put_table(&mut marks, &row.mark)?;
+        put_table(marks, &row.mark)?;
     }
-    Ok(marks)
+    Ok(())
 }
 
 /// Puts a mark behind the others, unless the last of them is of the same table.
@@ -41,19 +50,19 @@ fn put_table(marks: &mut Marks, mark: &Mark) -> Result<(), NoMemory>
 {
     match marks.as_slice().last() {
         Some(last) if last.table == mark.table => Ok(()),
-        _ => marks.push(copy_mark(mark)?),
+        _ => marks.push(mark.copy()?),
     }
 }
 
-/// What the catalogue is to say of each table that rows are removed from. The commit sets its number.
-fn rows_of(alloc: Global, removed: &[MarkedRow]) -> Result<Vec<CatRow>, NoMemory>
-    ensures { IfOk result (λ rows. (us : List ConflictUnit) → rows_share rows.items us ≡ share_unit (units_of_rows removed.now) us) }
+/// Puts what the catalogue is to say of the tables that rows are removed from behind others. The commit sets its number.
+fn put_marks(alloc: Global, rows: &mut Vec<CatRow>, removed: &[MarkedRow]) -> Result<(), NoMemory>
+    ensures { OnOk result ((us : List ConflictUnit) → rows_share rows.new.items us
+        ≡ (rows_share rows.old.items us || share_unit (units_of_rows removed.now) us)) }
 {
-    let mut rows = Vec::new(alloc);
     for row in removed {
-        put_mark(alloc, &mut rows, &row.mark)?;
+        put_mark(alloc, rows, &row.mark)?;
     }
-    Ok(rows)
+    Ok(())
 }
 
 /// Puts a mark into the last row, if that is of its table, and else into a row of its own behind the others.
@@ -76,7 +85,7 @@ fn add_mark(row: &mut CatRow, mark: &Mark) -> Result<(), NoMemory>
 {
     match row.marks.as_slice().last() {
         Some(last) if are_equal(last, mark) => Ok(()),
-        _ => row.marks.push(copy_mark(mark)?),
+        _ => row.marks.push(mark.copy()?),
     }
 }
 
@@ -85,7 +94,7 @@ fn row_of(alloc: Global, mark: &Mark) -> Result<CatRow, NoMemory>
     ensures { IfOk result (λ row. row ≡ record { seq = 0; table = mark.now.table; marks = mark.now ∷ [] }) }
 {
     let mut marks = Listed::empty(alloc);
-    marks.push(copy_mark(mark)?)?;
+    marks.push(mark.copy()?)?;
     let table = mark.table.copy()?;
     Ok(CatRow {
         seq: 0,
@@ -98,16 +107,4 @@ fn are_equal(a: &Mark, b: &Mark) -> bool
     ensures { result ≡ (same_text a.now.table b.now.table && (a.now.seq == b.now.seq) && (a.now.part == b.now.part) && (a.now.cell == b.now.cell)) }
 {
     a.table == b.table && a.seq == b.seq && a.part == b.part && a.cell == b.cell
-}
-
-/// An equal mark.
-fn copy_mark(mark: &Mark) -> Result<Mark, NoMemory>
-    ensures { IfOk result (λ copy. copy ≡ mark.now) }
-{
-    Ok(Mark {
-        table: mark.table.copy()?,
-        seq: mark.seq,
-        part: mark.part,
-        cell: mark.cell,
-    })
 }

@@ -158,15 +158,13 @@ pub fn stop(running: &mut Vec<Open>, session: u32)
 }
 
 impl Open {
-    /// The transaction with one part more; the room that was reserved for it is gone.
+    /// The transaction with one part more.
     fn with_part(self) -> Open
         requires { self.parts + 1 < 2 ^ 32 }
-        ensures same { (o : ℕ × Transaction) → IsOpen o self → IsOpen (o.0, record o.1 { parts = o.1.parts + 1 }) result }
-        ensures room { result.room ≡ None }
+        ensures { result ≡ record self { parts = self.parts + 1 } }
     {
         Open {
             parts: self.parts + 1,
-            room: None,
             ..self
         }
     }

@@ -16,8 +16,8 @@ returns-in-Some c = λ us.
     ap (λ (ms : List Mark). slice_get ms last) (sym c.as_slice.ensures) ∙ sym c.last.ensures.value ∙ ap option_copied c.in-Some.is in
     there_write c.args.row.now.table c.args.row.now.marks last c.in-Some.last.now there us
 
-pub returns-in_ok-copy_mark-in_default : goal.returns-in_ok-copy_mark-in_default
-returns-in_ok-copy_mark-in_default c =
+pub returns-in_ok-copy-in_default : goal.returns-in_ok-copy-in_default
+returns-in_ok-copy-in_default c =
     let same : c.in_default.row ≡ c.args.row.now = elim c.in_default.branch [
       | in_default-via-in-Some+else-are_equal w ↦ w.row-is
       | in_default-via-in_default w ↦ w.row-is

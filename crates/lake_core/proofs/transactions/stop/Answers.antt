@@ -1,8 +1,8 @@
-use Rattle.std.proofs.Common.{◌≡◌, ◌∙◌, ◌∷◌, ap, sym, subst, List, true, false, nat_eq}
+use Rattle.std.proofs.Common.{◌+◌, ◌∙◌, ◌∷◌, sym, subst, List, false}
 use Rattle.lake_model.specs.State.{after_stop}
 use Rattle.lake_core.specs.declared.transactions.Open.{Open}
 use Rattle.lake_core.specs.Rooms.{AreOpen, LeavesRooms}
-use Rattle.lake_core.proofs.OpenLemmas.{first_rooms, found_at, found_nowhere, mine_at, none_left, part_fits, same_rooms, stop_explicit, stop_none, stop_single, taken_rooms}
+use Rattle.lake_core.proofs.OpenLemmas.{found_at, found_nowhere, part_fits, part_rooms, same_rooms, stop_explicit, stop_none, stop_single, taken_rooms}
 use Rattle.lake_core.proofs.transactions.stop.Goals as goal
 
 pub returns-in_default-clause-stopped : goal.returns-in_default-clause-stopped
@@ -23,18 +23,16 @@ pub returns-then-stopped-clause-stopped : goal.returns-then-stopped-clause-stopp
 returns-then-stopped-clause-stopped c = λ st open_.
     let at = found_at c.args.session c.args.running.now.items _ _ c.in-Some.place c.as_slice.ensures.value c.place_of.ensures c.in-Some.is in
     let P : List Open → Type 0 = λ rs. AreOpen (after_stop c.args.session false st).running rs in
-    let now = c.put_first.ensures ∙ ap (λ (rs : List Open). c.with_part.result ∷ rs) c.take-stopped.ensures.others in
-    subst P (sym now) (stop_explicit c.args.session st c.args.running.now.items c.in-Some.place c.take-stopped.result c.with_part.result open_ c.requires.own at c.take-stopped.ensures.taken c.if-stopped.true c.with_part.ensures.same)
+    let now = c.put_first.ensures ∙ (λ i. c.with_part.ensures i ∷ c.take-stopped.ensures.others i) in
+    subst P (sym now) (stop_explicit c.args.session st c.args.running.now.items c.in-Some.place c.take-stopped.result open_ c.requires.own at c.take-stopped.ensures.taken c.if-stopped.true)
 
 pub returns-then-stopped-clause-rooms : goal.returns-then-stopped-clause-rooms
 returns-then-stopped-clause-rooms c =
     let rs = c.args.running.now.items in
     let at = found_at c.args.session rs _ _ c.in-Some.place c.as_slice.ensures.value c.place_of.ensures c.in-Some.is in
     let P : List Open → Type 0 = λ rs'. LeavesRooms c.args.session rs rs' in
-    let now = c.put_first.ensures ∙ ap (λ (rs : List Open). c.with_part.result ∷ rs) c.take-stopped.ensures.others in
-    let (st, open_, part) = c.requires.part in
-    let mine : nat_eq c.with_part.result.session c.args.session ≡ true = mine_at c.args.session st rs c.in-Some.place c.take-stopped.result c.with_part.result open_ at c.take-stopped.ensures.taken c.with_part.ensures.same in
-    subst P (sym now) (first_rooms c.args.session rs _ c.with_part.result (taken_rooms c.args.session rs c.in-Some.place _ c.requires.own at c.take-stopped.ensures.taken) (none_left c.args.session rs c.in-Some.place c.requires.own at) mine c.with_part.ensures.room)
+    let now = c.put_first.ensures ∙ (λ i. c.with_part.ensures i ∷ c.take-stopped.ensures.others i) in
+    subst P (sym now) (part_rooms c.args.session rs c.in-Some.place c.take-stopped.result (c.take-stopped.result.parts + 1) c.requires.own at c.take-stopped.ensures.taken)
 
 pub returns-else-stopped-clause-stopped : goal.returns-else-stopped-clause-stopped
 returns-else-stopped-clause-stopped c = λ st open_.

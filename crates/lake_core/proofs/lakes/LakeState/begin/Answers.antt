@@ -8,7 +8,8 @@ use Rattle.lake_core.specs.Facts as facts
 use Rattle.lake_core.specs.Homes.{IsHome, chronicle_of}
 use Rattle.lake_core.specs.Lakes.{Adds, IsExplicit, Lake, state_of}
 use Rattle.lake_core.specs.Rooms.{LeavesRooms}
-use Rattle.lake_core.proofs.HomeLemmas.{adds_at, adds_same, began_home, begun_rooms, entries_left, found_inside, found_outside, home_at, inside_begins, outside_begins, none_outside}
+use Rattle.lake_core.proofs.OpenLemmas.{begun_rooms}
+use Rattle.lake_core.proofs.HomeLemmas.{adds_at, adds_same, began_home, entries_left, found_inside, found_outside, home_at, inside_begins, outside_begins, none_outside}
 use Rattle.lake_core.proofs.lakes.LakeState.begin.Goals as goal
 
 pub refuse-requires-clause-allowed : goal.refuse-requires-clause-allowed
@@ -65,7 +66,7 @@ returns-clause-entry g c =
     let leaves = begun_rooms c.args.who.session rs r home.stands.own_sessions none c.begun-transaction.ensures.begun.session c.begun-transaction.ensures.room in
     let P : List Open → Type 0 = λ os. LeavesRooms c.args.who.session rs os in
     let adds = adds_at c.args.who (fact.Began c.args.explicit (l.last_number + 1) c.last-snapshot.result) l.chronicle.entries c.push.new.self.entries c.entry.result
-    (c.push.ensures.entries ∙ ap (λ (es : List Entry). es ++ c.entry.result ∷ []) c.in_ok-reserve.ensures.same) c.entry.ensures rs c.put_first.new.running.items (subst P (sym running) leaves) c.args.self.now c.self.view_is in
+    (c.push.ensures.entries ∙ ap (λ (es : List Entry). es ++ c.entry.result ∷ []) c.in_ok-reserve.ensures.same) c.entry.ensures rs c.put_first.new.running.items (subst P (sym running) leaves).keeps (invariant_of-self-2 g c) c.args.self.now c.self.view_is in
     let is = outside_begins st c.args.who.session c.args.explicit l.history l.last_number (l.last_number + 1) c.last-snapshot.result (none_outside c.args.who.session st rs home.stands.open_ones none) home.stands.numbered refl home.stands.history c.last-snapshot.ensures.last in
     let same = is ∙ ap (λ (lake : Lake). facts.beginning (state_of lake) c.args.who.session c.args.explicit) c.self.view_is in
     adds_same same adds

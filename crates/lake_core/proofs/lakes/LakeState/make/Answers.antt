@@ -57,4 +57,4 @@ returns-clause-entry g c =
     adds_same (ap (λ (n : ℕ). fact.Created c.args.table.now c.args.schema.now n) is)
     (adds_at c.args.who (fact.Created c.args.table.now c.args.schema.now (c.last-seq.result + 1)) l.chronicle.entries c.push.new.self.entries c.in_ok-name.field-0.did
     (c.push.ensures.entries ∙ ap (λ (es : List Entry). es ++ c.in_ok-name.field-0.did ∷ []) c.in_ok-rows.ensures.same) c.in_ok-name.ensures.entry
-    rs rs (outside_rooms c.args.who.session st rs home.stands.open_ones home.stands.own_sessions outside) c.args.self.now c.self.view_is)
+    rs rs (outside_rooms c.args.who.session st rs home.stands.open_ones home.stands.own_sessions outside).keeps (invariant_of-self-2 g c) c.args.self.now c.self.view_is)

@@ -24,4 +24,4 @@ pub returns-clause-entry : goal.returns-clause-entry
 returns-clause-entry g c =
     let l = c.self.inside in
     adds_at c.args.who (fact.Refused c.args.cause) l.chronicle.entries c.push.new.self.entries c.entry.result (c.push.ensures.entries ∙ ap (λ (es : List Entry). es ++ c.entry.result ∷ []) c.in_ok-reserve.ensures.same) c.entry.ensures
-    l.running.items c.stop.new.running.items c.stop.ensures.rooms c.args.self.now c.self.view_is
+    l.running.items c.stop.new.running.items c.stop.ensures.rooms.keeps (invariant_of-self-2 g c) c.args.self.now c.self.view_is

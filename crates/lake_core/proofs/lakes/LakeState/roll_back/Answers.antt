@@ -30,4 +30,4 @@ pub returns-clause-entry : goal.returns-clause-entry
 returns-clause-entry g c =
     let l = c.self.inside in
     adds_at c.args.who fact.RolledBack l.chronicle.entries c.push.new.self.entries c.entry.result c.push.ensures.entries c.entry.ensures
-    l.running.items c.end.new.running.items c.end.ensures.rooms c.args.self.now c.self.view_is
+    l.running.items c.end.new.running.items c.end.ensures.rooms.keeps (invariant_of-self g c) c.args.self.now c.self.view_is

@@ -1,8 +1,0 @@
-use Rattle.std.proofs.Common.{◌≡◌, ◌||◌, List, drop}
-use Rattle.lake_model.specs.Versions.{ConflictUnit, share_unit}
-use Rattle.write_set_catalog.specs.Rows.{units_of_marks}
-use Rattle.lake_core.specs.Rooms.{units_of_rows}
-use Rattle.lake_core.proofs.rooms.marks_of.Given as goal
-
-abbrev pub invariant-loop-row : goal.invariant-loop-row
-invariant-loop-row l = (us : List ConflictUnit) → (share_unit (units_of_marks l.marks) us || share_unit (units_of_rows (drop l.row-index l.removed)) us) ≡ share_unit (units_of_rows l.removed) us
