@@ -6,6 +6,7 @@ pub mod Mentions
 pub mod BoundForms
 pub mod Binding
 pub mod Form
+pub mod ScriptStatements
 pub mod Evaluation
 pub mod Groups
 pub mod Query

@@ -13,7 +13,7 @@ use Rattle.lake_model.specs.Following.{Follows, IsAnswered, statements}
 use Rattle.lake_model.specs.Text.{text, run_text}
 use Rattle.lake_model.proofs.Lists.{all_append, all_weaker}
 use Rattle.lake_model.proofs.Steps.{legal_more, follows_more, text_more, text_kept}
-use Rattle.lake_script.specs.Scripts.{AreInTurn}
+use Rattle.lake_script.specs.Scripts.{AreInTurn, IsRunnable}
 use Rattle.lake_script.specs.Headline.{HasRun, HasHalted, HasBegun}
 use Rattle.lake_script.specs.Steps.{RanStep, StoppedStep}
 use Rattle.lake_script.proofs.Streams.{appends_more, appends_none}
@@ -54,16 +54,25 @@ some_left [] k h = absurd (omega arith)
 some_left (x ∷ xs) zero h = (x, xs, refl)
 some_left (x ∷ xs) (suc k) h = some_left xs k (omega arith)
 
+-- an item of the steps that is a statement
+pub step_is : (steps : List Step) (index : ℕ) (item : Step) (n : Numbered) → item ≡ get_or steps index item → item ≡ One n → One n ≡ get_or steps index (One n)
+step_is steps index item n there one = sym one ∙ there ∙ ap (λ (d : Step). get_or steps index d) one
+
+next_numbered : (before after : Option (List ℕ)) (entries : List Noted) (steps : List Step) (count : ℕ) (n : Numbered) → Progress before after entries steps count → count < length steps → One n ≡ get_or steps count (One n) →
+    AreInTurn (count + 1) (One n ∷ drop (count + 1) steps)
+next_numbered before after entries steps count n so_far h is = let P : List Step → Type 0 = λ xs. AreInTurn (count + 1) xs in subst P (take_next steps count (One n) h is).1 so_far.numbered
+
+-- the next statement is one that a session runs
+pub next_runnable : (before after : Option (List ℕ)) (entries : List Noted) (steps : List Step) (count : ℕ) (n : Numbered) → Progress before after entries steps count → count < length steps → One n ≡ get_or steps count (One n) → IsRunnable n
+next_runnable before after entries steps count n so_far h is = (next_numbered before after entries steps count n so_far h is).1
+
 module _ (before middle after : Option (List ℕ)) (old new : List Noted) (steps : List Step) (count : ℕ) (n : Numbered)
     (so_far : Progress before middle old steps count) (h : count < length steps) (is : One n ≡ get_or steps count (One n)) where
   done_now : take (count + 1) steps ≡ take count steps ++ One n ∷ []
   done_now = (take_next steps count (One n) h is).0
 
-  left_now : drop count steps ≡ One n ∷ drop (count + 1) steps
-  left_now = (take_next steps count (One n) h is).1
-
   numbered_now : AreInTurn (count + 1) (One n ∷ drop (count + 1) steps)
-  numbered_now = let P : List Step → Type 0 = λ xs. AreInTurn (count + 1) xs in subst P left_now so_far.numbered
+  numbered_now = next_numbered before middle old steps count n so_far h is
 
   below_now : AllByRecursion (λ m. m.place < n.place) (statements (take count steps))
   below_now = all_weaker (statements (take count steps)) (λ m less. omega (arith, less, numbered_now.0)) so_far.below
@@ -151,6 +160,20 @@ module _ (before middle after : Option (List ℕ)) (old new : List Noted) (steps
     appended = (let P : Option (List ℕ) → Type 0 = λ o. Appends before o (text old (take count steps)) in subst P same so_far.text);
     part = ([], sym (append-nil (text old (take count steps))));
   }
+
+-- no step has run, and none of the first text was written
+pub none_begun : (written : Option (List ℕ)) (steps : List Step) → HasBegun written written steps
+none_begun written steps = record {
+  done = [];
+  rest = steps;
+  first = refl;
+  entries = [];
+  legal = tt;
+  follows = record { runs = tt; no_others = tt; order = tt };
+  written = [];
+  appended = appends_none written;
+  part = ([], refl);
+}
 
 -- all steps have run
 pub has_run : (before after : Option (List ℕ)) (entries : List Noted) (steps : List Step) (count : ℕ) → Progress before after entries steps count → length steps ≤ count → HasRun before after entries steps

@@ -9,13 +9,14 @@ use Rattle.lake_model.specs.declared.entries.Fact.TheVariants as fact
 use Rattle.lake_model.specs.declared.replies.Reply.TheVariants as reply
 use Rattle.lake_model.specs.declared.replies.Verb.TheVariants.{Inserted}
 use Rattle.lake_model.specs.declared.scripts.Step.{Step}
+use Rattle.lake_model.specs.declared.scripts.Step.TheVariants.{One}
+use Rattle.lake_model.specs.declared.statements.Statement.{Statement}
 use Rattle.lake_model.specs.declared.statements.Statement.TheVariants.{Create, Insert, Select}
 use Rattle.lake_model.specs.Changes.{no_change}
 use Rattle.lake_model.specs.State.{Noted}
 use Rattle.lake_model.specs.declared.statements.Select.{Select as Query}
 use Rattle.sql_tokens.specs.declared.faults.ParseKind.TheVariants.{Syntax}
 use Rattle.sql_tokens.specs.declared.faults.ScriptBad.{ScriptBad}
-use Rattle.sql_parser.specs.Grammar.{step_of}
 
 abbrev pub row : ℕ → List Value
 row n = Int (pos n) ∷ []
@@ -39,10 +40,14 @@ query_of table = record {
 abbrev pub bytes : List ℕ
 bytes = codes "CREATE TABLE t (a INT); INSERT INTO t VALUES (2), (1), (1); SELECT * FROM t;"
 
+-- a statement of session 1
+abbrev pub step_at : ℕ → Statement → Step
+step_at place x = One (record { place = place; session = 1; statement = x })
+
 abbrev pub steps : List Step
 steps =
-    step_of 1 (Create (codes "t") columns None) ∷ step_of 2 (Insert (codes "t") (row 2 ∷ row 1 ∷ row 1 ∷ []))
-    ∷ step_of 3 (Select (query_of (codes "t"))) ∷ []
+    step_at 1 (Create (codes "t") columns None) ∷ step_at 2 (Insert (codes "t") (row 2 ∷ row 1 ∷ row 1 ∷ []))
+    ∷ step_at 3 (Select (query_of (codes "t"))) ∷ []
 
 abbrev pub entry_at : ℕ → Fact → Noted
 entry_at place f = record { entry = record { session = 1; place = place; fact = f }; ends = false }

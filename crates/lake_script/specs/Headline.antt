@@ -10,6 +10,7 @@ use Rattle.lake_model.specs.Text.{text}
 use Rattle.sql_tokens.specs.declared.faults.ScriptBad.{ScriptBad}
 use Rattle.lake_script.specs.declared.status.Status.{Status}
 use Rattle.lake_script.specs.declared.status.Status.TheVariants.{Done, Usage, ScriptRefused, TooLong, ReadFault, WriteFault, NoMemory}
+use Rattle.lake_core.specs.Lakes.{Lake}
 use Rattle.lake_script.specs.Commands.{IsCommand}
 use Rattle.sql_parser.specs.Scripts.{script_of}
 
@@ -102,13 +103,13 @@ pub record Outside : Type 0 where
   pub idle_after : ℕ
 
 -- what each status says of a run
-abbrev pub EndsAs : Outside → List (List ℕ) → Status → Option (List Noted) → Type 0
-EndsAs o words Done lake = IsCommand words × IsSomeAnd lake (λ entries. ReadsScript (HasRun o.written_before o.written_after entries) o.left_before o.left_after)
+abbrev pub EndsAs : Outside → List (List ℕ) → Status → Option Lake → Type 0
+EndsAs o words Done lake = IsCommand words × IsSomeAnd lake (λ l. ReadsScript (HasRun o.written_before o.written_after l.entries) o.left_before o.left_after)
 EndsAs o words Usage lake = (¬ IsCommand words) × (lake ≡ None)
 EndsAs o words (ScriptRefused bad) lake = IsCommand words × (lake ≡ None) × ReadsRefused bad o.left_before o.left_after
 EndsAs o words TooLong lake = IsCommand words × (lake ≡ None) × HasRead (λ n. 16777216 < n) o.left_before o.left_after
 EndsAs o words ReadFault lake = IsCommand words × (lake ≡ None) × Rises o.source_before o.source_after × HasRead (λ n. n ≤ 16777216) o.left_before o.left_after
-EndsAs o words WriteFault lake = IsCommand words × IsSomeAnd lake (λ entries. ReadsScript (HasHalted o.written_before o.written_after entries) o.left_before o.left_after)
+EndsAs o words WriteFault lake = IsCommand words × IsSomeAnd lake (λ l. ReadsScript (HasHalted o.written_before o.written_after l.entries) o.left_before o.left_after)
     × (Rises o.sink_before o.sink_after ⊎ Rises o.idle_before o.idle_after)
 EndsAs o words NoMemory lake = IsCommand words × (lake ≡ None) × WritesPart o.left_before o.left_after o.written_before o.written_after
 

@@ -3,8 +3,6 @@ pub mod Scripts
 pub mod Statuses
 pub mod Headline
 pub mod Checks
-pub mod Tables
-pub mod Effects
-pub mod Lakes
+pub mod Sessions
 pub mod Steps
 pub mod Examples

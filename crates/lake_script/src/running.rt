@@ -1,22 +1,26 @@
-ghost use Rattle.std.specs.Prelude.{◌≡◌, ◌^◌, ◌<◌, true, ◌≤◌, ◌⊎◌, ◌↔◌, List, ℕ, [], None, Some, length, map, IsSome, IsSomeAnd, is_some, OnOk, IsErrOf, vec_len};
+ghost use Rattle.std.specs.Prelude.{◌≡◌, ◌^◌, ◌<◌, false, ◌≤◌, ◌⊎◌, ◌↔◌, List, ℕ, [], None, Some, length, map, IsSome, IsSomeAnd, is_some, OnOk, IsErrOf, vec_len};
 ghost use Rattle.std.specs.String.{string_bytes};
 ghost use Rattle.lake_outside.specs.Counts.{Rises};
 ghost use Rattle.lake_model.specs.declared.scripts.Step.{Step as ScriptStep};
 ghost use Rattle.lake_model.specs.Allowed.{IsLegal};
 ghost use Rattle.lake_model.specs.Following.{Follows};
 ghost use Rattle.lake_script.specs.Commands.{IsCommand};
+ghost use Rattle.lake_core.specs.Lakes.{new_lake};
 ghost use Rattle.lake_script.specs.Scripts.{AreInTurn, IsRunnable};
+ghost use Rattle.lake_script.specs.Sessions.{AreSeated, HasStepped, IsReady, ports_of};
 ghost use Rattle.sql_parser.specs.Scripts.{script_of};
 ghost use Rattle.lake_script.specs.Headline.{HasRead, HasRun, HasHalted, HasBegun, ReadsScript, ReadsRefused, WritesPart, EndsAs, IsQuiet};
 ghost use Rattle.lake_script.specs.Steps.{RanStep, StoppedStep};
 
-use crate::lakes::LakeState;
 use crate::scripts::read_script;
+use crate::sessions::{return_ports, take_sessions};
 use crate::status::Status;
 use crate::words::is_command;
 use crate::writing::{RunEnd, put_all};
+use lake_core::LakeState;
 use lake_model::{Numbered, Script, Step, reply_text};
 use lake_outside::{Gate, Port, Sink, Source};
+use lake_session::Session;
 use std::alloc::Global;
 
 /// How a run ended, with the lake that it leaves.
@@ -27,11 +31,12 @@ pub struct Ended<P: Port> {
     pub lake: Option<LakeState<P>>,
 }
 
-/// Runs the script that the source gives over a new lake, and writes a reply for each statement.
+/// Runs the script that the source gives over a new lake, each statement by its session, and writes a reply
+/// for each.
 ///
 /// The words are a command: so far `run` alone. `ports` are the ways to the store: the first is kept for
-/// what comes later, the next 16 are those of the sessions and the 16 behind them those of the servers. No
-/// statement needs them yet, nor the gate.
+/// what comes later, the next 16 are those of the sessions 1 to 16, and the 16 behind them those of the
+/// servers. The sessions hold theirs while the script runs. No statement calls a port yet, nor the gate.
 ///
 /// `Done` says that every statement has its reply. Then the lake's chronicle is legal, follows the script
 /// and has the text that was written; `docs/THEOREM.md` explains these words. Every other status comes for
@@ -46,11 +51,11 @@ pub fn lake_run<S: Source, K: Sink, P: Port, G: Gate>(
 ) -> Ended<P>
     requires { 33 ≤ vec_len ports.old }
 
-    ensures legal { result.status ≡ Status.Done → IsSomeAnd result.lake IsLegal }
+    ensures legal { result.status ≡ Status.Done → IsSomeAnd result.lake (λ lake. IsLegal lake.entries) }
     ensures follows { result.status ≡ Status.Done → IsSomeAnd result.lake
-        (λ entries. ReadsScript (λ steps. Follows entries steps) (S.left src.old) (S.left src.new)) }
+        (λ lake. ReadsScript (λ steps. Follows lake.entries steps) (S.left src.old) (S.left src.new)) }
     ensures text { result.status ≡ Status.Done → IsSomeAnd result.lake
-        (λ entries. ReadsScript (HasRun (K.written out.old) (K.written out.new) entries) (S.left src.old) (S.left src.new)) }
+        (λ lake. ReadsScript (HasRun (K.written out.old) (K.written out.new) lake.entries) (S.left src.old) (S.left src.new)) }
 
     ensures usage { (result.status ≡ Status.Usage) ↔ (¬ IsCommand (map string_bytes words.now.items)) }
     ensures read_fault { result.status ≡ Status.ReadFault → Rises (S.faults src.old) (S.faults src.new) }
@@ -59,7 +64,7 @@ pub fn lake_run<S: Source, K: Sink, P: Port, G: Gate>(
     ensures refused { (bad : _) → result.status ≡ Status.ScriptRefused bad → ReadsRefused bad (S.left src.old) (S.left src.new) }
     ensures write_fault { result.status ≡ Status.WriteFault → Rises (K.faults out.old) (K.faults out.new) ⊎ Rises (K.idle out.old) (K.idle out.new) }
     ensures halted { result.status ≡ Status.WriteFault → IsSomeAnd result.lake
-        (λ entries. ReadsScript (HasHalted (K.written out.old) (K.written out.new) entries) (S.left src.old) (S.left src.new)) }
+        (λ lake. ReadsScript (HasHalted (K.written out.old) (K.written out.new) lake.entries) (S.left src.old) (S.left src.new)) }
     ensures no_memory { result.status ≡ Status.NoMemory → WritesPart (S.left src.old) (S.left src.new) (K.written out.old) (K.written out.new) }
 
     ensures lake { IsSome result.lake ↔ ((result.status ≡ Status.Done) ⊎ (result.status ≡ Status.WriteFault)) }
@@ -73,7 +78,7 @@ pub fn lake_run<S: Source, K: Sink, P: Port, G: Gate>(
         → (¬ Rises (K.faults out.old) (K.faults out.new)) → (¬ Rises (K.idle out.old) (K.idle out.new))
         → (result.status ≡ Status.Done) ⊎ (result.status ≡ Status.NoMemory) }
 {
-    run_words(alloc, words, src, out)
+    run_words(alloc, words, src, out, ports)
 }
 
 fn run_words<S: Source, K: Sink, P: Port>(
@@ -81,7 +86,9 @@ fn run_words<S: Source, K: Sink, P: Port>(
     words: &Vec<String>,
     src: &mut S,
     out: &mut K,
+    ports: &mut Vec<P>,
 ) -> Ended<P>
+    requires { 33 ≤ vec_len ports.old }
     ensures ends { EndsAs (record {
       left_before = S.left src.old;
       left_after = S.left src.new;
@@ -96,6 +103,7 @@ fn run_words<S: Source, K: Sink, P: Port>(
     }) (map string_bytes words.now.items) result.status result.lake }
     ensures quiet { IsQuiet result.status → out.new ≡ out.old }
     ensures unread { result.status ≡ Status.Usage → src.new ≡ src.old }
+    ensures ports { ports.new ≡ ports.old }
 {
     if !is_command(words) {
         return without_lake(Status::Usage);
@@ -107,7 +115,7 @@ fn run_words<S: Source, K: Sink, P: Port>(
     let Ok(mut lake) = LakeState::new(alloc) else {
         return without_lake(Status::NoMemory);
     };
-    match run_all(alloc, &mut lake, &script, out) {
+    match run_script(alloc, &mut lake, &script, out, ports) {
         Ok(()) => with_lake(Status::Done, lake),
         Err(RunEnd::WriteFault) => with_lake(Status::WriteFault, lake),
         Err(RunEnd::NoMemory) => without_lake(Status::NoMemory),
@@ -131,50 +139,86 @@ fn without_lake<P: Port>(status: Status) -> Ended<P>
     Ended { status, lake: None }
 }
 
-/// Runs a statement and writes its reply.
+/// Runs a statement of the session and writes its reply.
 fn run_step<K: Sink, P: Port>(
     alloc: Global,
     lake: &mut LakeState<P>,
+    session: &mut Session<P>,
     n: &Numbered,
     out: &mut K,
 ) -> Result<(), RunEnd>
-    requires room { length lake.old < 2 ^ 62 }
+    requires own { session.old.number ≡ n.now.session }
+    requires unspent { session.old.spent ≡ false }
+    requires few { length lake.old.entries < 2 ^ 60 }
     requires runnable { IsRunnable n.now }
-    ensures ok { OnOk result (RanStep lake.old lake.new n.now (K.written out.old) (K.written out.new)) }
-    ensures stopped { IsErrOf result RunEnd.WriteFault → StoppedStep ◌<◌ lake.old lake.new n.now (K.written out.old) (K.written out.new) }
-    ensures no_memory { IsErrOf result RunEnd.NoMemory → ((lake.new ≡ lake.old) × (out.new ≡ out.old))
-        ⊎ StoppedStep ◌≤◌ lake.old lake.new n.now (K.written out.old) (K.written out.new) }
+    requires ready { IsReady lake.old n.now.session }
+    ensures ok { OnOk result (RanStep lake.old.entries lake.new.entries n.now (K.written out.old) (K.written out.new)) }
+    ensures stepped { OnOk result (HasStepped lake.old lake.new n.now.session) }
+    ensures session { OnOk result (session.new ≡ session.old) }
+    ensures port { session.new.port ≡ session.old.port }
+    ensures stopped { IsErrOf result RunEnd.WriteFault → StoppedStep ◌<◌ lake.old.entries lake.new.entries n.now (K.written out.old) (K.written out.new) }
+    ensures no_memory { IsErrOf result RunEnd.NoMemory → (out.new ≡ out.old)
+        ⊎ StoppedStep ◌≤◌ lake.old.entries lake.new.entries n.now (K.written out.old) (K.written out.new) }
     ensures fault { IsErrOf result RunEnd.WriteFault → Rises (K.faults out.old) (K.faults out.new) ⊎ Rises (K.idle out.old) (K.idle out.new) }
     ensures faults_never_fall { K.faults out.old ≤ K.faults out.new }
     ensures idle_never_falls { K.idle out.old ≤ K.idle out.new }
 {
-    let reply = lake.run(alloc, n)?;
+    let reply = session.execute(alloc, lake, n.place, &n.statement)?;
     let mut text = Vec::new(alloc);
     reply_text(n.place, &reply, &mut text)?;
     put_all(out, text.as_slice())
 }
 
-/// Runs the steps of a script over a lake without entries.
-pub fn run_all<K: Sink, P: Port>(
+/// Runs the steps of a script over a new lake, each by its session.
+fn run_all<K: Sink, P: Port>(
     alloc: Global,
     lake: &mut LakeState<P>,
+    sessions: &mut [Session<P>],
     script: &Script,
     out: &mut K,
 ) -> Result<(), RunEnd>
-    requires new { lake.old ≡ [] }
+    requires new { lake.old ≡ new_lake }
     requires few { length script.now < 2 ^ 32 }
     requires in_turn { AreInTurn 1 script.now }
-    ensures ok { OnOk result (HasRun (K.written out.old) (K.written out.new) lake.new script.now) }
-    ensures halted { IsErrOf result RunEnd.WriteFault → HasHalted (K.written out.old) (K.written out.new) lake.new script.now }
+    requires seated { AreSeated 1 sessions.old }
+    requires sessions { length sessions.old ≡ 16 }
+    ensures ok { OnOk result (HasRun (K.written out.old) (K.written out.new) lake.new.entries script.now) }
+    ensures halted { IsErrOf result RunEnd.WriteFault → HasHalted (K.written out.old) (K.written out.new) lake.new.entries script.now }
     ensures no_memory { IsErrOf result RunEnd.NoMemory → HasBegun (K.written out.old) (K.written out.new) script.now }
     ensures fault { IsErrOf result RunEnd.WriteFault → Rises (K.faults out.old) (K.faults out.new) ⊎ Rises (K.idle out.old) (K.idle out.new) }
+    ensures ports { ports_of sessions.new ≡ ports_of sessions.old }
 {
     let steps = script.as_slice();
     for step in steps {
         let Step::One(n) = step else { unreachable!() };
-        if let Err(end) = run_step(alloc, lake, n, out) {
+        let session = &mut sessions[n.session as usize - 1];
+        if let Err(end) = run_step(alloc, lake, session, n, out) {
             return Err(end);
         }
     }
     Ok(())
+}
+
+/// Runs the steps of a script over a new lake, by sessions to which their ports are lent.
+fn run_script<K: Sink, P: Port>(
+    alloc: Global,
+    lake: &mut LakeState<P>,
+    script: &Script,
+    out: &mut K,
+    ports: &mut Vec<P>,
+) -> Result<(), RunEnd>
+    requires new { lake.old ≡ new_lake }
+    requires few { length script.now < 2 ^ 32 }
+    requires in_turn { AreInTurn 1 script.now }
+    requires ports { 33 ≤ vec_len ports.old }
+    ensures ok { OnOk result (HasRun (K.written out.old) (K.written out.new) lake.new.entries script.now) }
+    ensures halted { IsErrOf result RunEnd.WriteFault → HasHalted (K.written out.old) (K.written out.new) lake.new.entries script.now }
+    ensures no_memory { IsErrOf result RunEnd.NoMemory → HasBegun (K.written out.old) (K.written out.new) script.now }
+    ensures fault { IsErrOf result RunEnd.WriteFault → Rises (K.faults out.old) (K.faults out.new) ⊎ Rises (K.idle out.old) (K.idle out.new) }
+    ensures ports { ports.new ≡ ports.old }
+{
+    let mut sessions = take_sessions(alloc, ports)?;
+    let ended = run_all(alloc, lake, sessions.as_mut_slice(), script, out);
+    return_ports(sessions, ports);
+    ended
 }

@@ -37,7 +37,7 @@ fn run_over<S: Source, K: Sink>(
     let mut ports = ports(alloc)?;
     let ended = lake_run(alloc, &words, src, out, &mut ports, &OpenGate);
     let entries = match &ended.lake {
-        Some(lake) => Some(lake.chronicle().len()),
+        Some(lake) => Some(lake.chronicle().entries().len()),
         None => None,
     };
     Ok((ended.status, entries))
@@ -225,6 +225,24 @@ fn a_failing_sink_ends_the_run(rt: HostRuntime) -> Result<(), Fail> {
     Ok(())
 }
 
+#[test]
+fn a_failing_sink_ends_a_transaction_in_its_midst(rt: HostRuntime) -> Result<(), Fail> {
+    let alloc = rt.alloc();
+    let script: &[u8] =
+        b"CREATE TABLE t (a INT); @b BEGIN; @b INSERT INTO t VALUES (1); @b COMMIT; SELECT * FROM t;";
+    let mut src = SureSource::new(Vec::from_slice(alloc, script)?);
+    let mut out = MemSink::new(alloc, vec![in alloc; 4]?);
+    let (status, entries) = run_over(alloc, "run", &mut src, &mut out)?;
+    assert_eq!(rt; status, Status::WriteFault);
+    assert_eq!(rt;
+        out.written(),
+        b"1: created t as 1\n2: begun at 1\n3: inserted 1\n".as_slice()
+    );
+    // Created, Began, Ran and Committed: the commit stands, though its reply wasn't written.
+    assert_eq!(rt; entries, Some(4));
+    Ok(())
+}
+
 /// A sink that takes no byte and doesn't fail either.
 #[derive(Drop)]
 struct IdleSink {
@@ -309,6 +327,6 @@ fn a_new_lake_has_no_entry(rt: HostRuntime) -> Result<(), Fail> {
     let Ok(lake) = LakeState::<DeadPort>::new(rt.alloc()) else {
         return Err(Fail::from("out of memory"));
     };
-    assert_eq!(rt; lake.chronicle().len(), 0);
+    assert_eq!(rt; lake.chronicle().entries().len(), 0);
     Ok(())
 }

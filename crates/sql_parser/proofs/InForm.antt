@@ -1,5 +1,5 @@
 -- Each statement that is read is in form.
-use Rattle.std.proofs.Common.{◌≡◌, refl, sym, ap, ◌∙◌, arith, ℕ, zero, suc, pred, ◌+◌, ◌-◌, ◌<◌, ◌≤◌, ◌==◌, nat_le, le-leb, eq-eqb, leb-true, Bool, true, false, not, ◌&&◌, ◌||◌, List, [], ◌∷◌, Option, Some, None, option_map, is_none, length, map, drop, subst, Ok, if◌then◌else◌}
+use Rattle.std.proofs.Common.{◌≡◌, refl, sym, ap, ◌∙◌, arith, ℕ, zero, suc, pred, ◌-◌, ◌<◌, ◌≤◌, ◌==◌, nat_le, le-leb, eq-eqb, leb-true, Bool, true, false, not, ◌&&◌, ◌||◌, List, [], ◌∷◌, Option, Some, None, option_map, is_none, length, map, if◌then◌else◌}
 use Rattle.std.specs.List.{list_all, list_any}
 use Rattle.predictive_grammar.specs.Grammars.{many, as_, listed}
 use Rattle.predictive_grammar.specs.Phrases.{has_room, less_one}
@@ -12,24 +12,20 @@ use Rattle.lake_model.specs.declared.expressions.Item.TheVariants.{Plain, Agg as
 use Rattle.lake_model.specs.declared.expressions.Ref.{Ref}
 use Rattle.lake_model.specs.declared.statements.OrderBy.TheVariants.{Name as ByName, Number as ByNumber}
 use Rattle.lake_model.specs.declared.statements.Set.{Set}
-use Rattle.lake_model.specs.declared.scripts.Step.{Step}
 use Rattle.lake_model.specs.declared.statements.Statement.{Statement}
-use Rattle.lake_model.specs.declared.statements.Statement.TheVariants.{Create, Insert, Select, Update, Delete}
+use Rattle.lake_model.specs.declared.statements.Statement.TheVariants.{Create, Begin, Commit, RollBack, Insert, Select, Update, Delete}
 use Rattle.lake_model.specs.BoundForms.{is_empty, is_aggregate}
 use Rattle.lake_model.specs.Form.{is_between, is_name, is_name_or_none, are_names, is_expr, is_filter, is_agg, is_item, is_source, is_pair, is_on, is_key_by, is_key, is_set, is_tuple, is_select, has_bounds, has_item_count, groups_one_table, is_form}
 use Rattle.sql_parser.specs.declared.selects.Body.{Body}
 use Rattle.sql_parser.specs.declared.selects.Head.{Head}
 use Rattle.sql_parser.specs.declared.selects.Join.{Join}
 use Rattle.sql_parser.specs.declared.selects.Tail.{Tail}
-use Rattle.sql_parser.specs.Ahead.{Ahead, reading, most_levels}
 use Rattle.sql_parser.specs.Classes.{Class}
 use Rattle.sql_parser.specs.Grammar
-use Rattle.sql_tokens.specs.Scans.{scan_at}
 use Rattle.sql_parser.specs.Grammar.{Form, up_to_64, in_parentheses, optional, steps_from}
-use Rattle.sql_parser.specs.Scripts.{AllStatements, all_of_step, is_table_statement}
-use Rattle.sql_parser.proofs.ShortNames.{names_short}
-use Rattle.sql_parser.proofs.Yields.{Says, All}
-use Rattle.sql_parser.proofs.InFormExpressions.{Reads, short, Passes, Any, reads_as, reads_both, reads_either, reads_nothing, reads_many, reads_any, reads_name, reads_behind, reads_before, reads_maybe, reads_reference, reads_expression, reads_literal, passes_both, passes_earlier, passes_later, if_any, both_true, both_parts, reads_forked}
+use Rattle.lake_model.specs.ScriptStatements.{is_script_statement}
+use Rattle.sql_parser.proofs.Yields.{Says}
+use Rattle.sql_parser.proofs.InFormExpressions.{Reads, Passes, Any, reads_as, reads_both, reads_either, reads_nothing, reads_many, reads_any, reads_name, reads_behind, reads_before, reads_maybe, reads_reference, reads_expression, reads_literal, passes_both, passes_earlier, passes_later, if_any, both_true, both_parts, reads_forked}
 
 -- lists
 
@@ -55,7 +51,7 @@ within_none : (room : Option ℕ) → Within room 0
 within_none None = tt
 within_none (Some n) = omega arith
 
-reads_members : {A : Type 0} {levels : ℕ} {room : Option ℕ} {lead : Option Class} {g : Form A} {is : A → Bool} → Reads levels g (Passes is) → Reads levels (many room lead g) (Members is room)
+pub reads_members : {A : Type 0} {levels : ℕ} {room : Option ℕ} {lead : Option Class} {g : Form A} {is : A → Bool} → Reads levels g (Passes is) → Reads levels (many room lead g) (Members is room)
 reads_members {A} {levels} {room} {lead} {g} {is} part =
     reads_many (Members is) part (λ room b. (refl, within_none room, omega arith))
     (λ room b x m xs l has p q. (both_true (is x) (list_all is xs) p.0 q.0, within_more room (length xs) has q.1, omega (arith, p.1, q.2)))
@@ -96,7 +92,7 @@ along {A} {levels} {g} {is} {goes} same part = record {
   holds = λ b ts x l rest all e. let (p, more) = part.holds b ts x l rest all e in ((sym (same x) ∙ p.0, p.1), more);
 }
 
-as_passes : {A B : Type 0} {levels : ℕ} {f : A → B} {g : Form A} {is : A → Bool} (goes : B → Bool) → ((x : A) → is x ≡ true → goes (f x) ≡ true) → Reads levels g (Passes is)
+pub as_passes : {A B : Type 0} {levels : ℕ} {f : A → B} {g : Form A} {is : A → Bool} (goes : B → Bool) → ((x : A) → is x ≡ true → goes (f x) ≡ true) → Reads levels g (Passes is)
     → Reads levels (as_ f g) (Passes goes)
 as_passes {A} {B} {levels} {f} {g} {is} goes h part = reads_as {f = f} (Passes goes) part (λ b x l p. (h x p.0, p.1))
 
@@ -144,9 +140,9 @@ create_form table columns distribution p =
     both_true (is_name table && is_between 1 64 (length columns) && list_all (λ c. is_name c.name) columns) (is_name_or_none distribution)
     (both_true (is_name table && is_between 1 64 (length columns)) (list_all (λ c. is_name c.name) columns) (both_true (is_name table) (is_between 1 64 (length columns)) t n) all) d
 
--- a statement of a table, in form
+-- a statement of a script, in form
 abbrev pub is_ready : Statement → Bool
-is_ready x = is_table_statement x && is_form x
+is_ready x = is_script_statement x && is_form x
 
 reads_create : {levels : ℕ} → Reads levels Grammar.create (Passes is_ready)
 unfolding Grammar.create
@@ -488,47 +484,29 @@ reads_select =
     (reads_forked (λ h. Passes (goes_with h)) (Passes (λ x. is_head x.0 && goes_with x.0 x.1)) reads_head (λ h some. weaker (with_aggregate h) reads_body_behind_aggregate)
     (λ h none. weaker (without_aggregate h none) reads_body) (λ b x m y l p q. (both_true (is_head x) (goes_with x y) p.0 q.0, omega (arith, p.1, q.1)))) reads_tail)
 
--- scripts
+-- transactions
 
-reads_statement : {levels : ℕ} → Reads levels Grammar.statement (Passes is_ready)
+-- a statement that has no parts
+reads_bare : {A : Type 0} {levels : ℕ} {g : Form A} (x : Statement) → is_ready x ≡ true → Reads levels g Any → Reads levels (as_ (λ _. x) g) (Passes is_ready)
+reads_bare {A} {levels} {g} x ready part = reads_as {f = λ _. x} (Passes is_ready) part (λ b y l p. (ready, p))
+
+reads_begin : {levels : ℕ} → Reads levels Grammar.begin (Passes is_ready)
+unfolding Grammar.begin
+reads_begin = reads_bare Begin refl (reads_behind (λ b m y l more p. omega arith) reads_any (anything_at (reads_maybe (anything reads_any))))
+
+reads_commit : {levels : ℕ} → Reads levels Grammar.commit (Passes is_ready)
+unfolding Grammar.commit
+reads_commit = reads_bare Commit refl reads_any
+
+reads_roll_back : {levels : ℕ} → Reads levels Grammar.roll_back (Passes is_ready)
+unfolding Grammar.roll_back
+reads_roll_back = reads_bare RollBack refl reads_any
+
+reads_transaction : {levels : ℕ} → Reads levels Grammar.transaction (Passes is_ready)
+unfolding Grammar.transaction
+reads_transaction = reads_either reads_begin (reads_either reads_commit reads_roll_back)
+
+-- each statement is of these kinds and in form
+pub reads_statement : {levels : ℕ} → Reads levels Grammar.statement (Passes is_ready)
 unfolding Grammar.statement
-reads_statement = reads_either reads_create (reads_either reads_insert (reads_either reads_select (reads_either reads_update reads_delete)))
-
-reads_line : {levels : ℕ} → Reads levels Grammar.line (Passes is_ready)
-unfolding Grammar.line
-reads_line = reads_before (passes_later is_ready) reads_statement reads_any
-
--- each statement of a script is of these kinds and in form
-pub reads_lines : {levels : ℕ} → Reads levels Grammar.lines (Members is_ready (Some Grammar.most_statements))
-unfolding Grammar.lines
-reads_lines = reads_members reads_line
-
--- the statements of a script's bytes, from the first token on
-statements_ready : (bytes : List ℕ) (first now : Ahead) (xs : List Statement) → first.tokens ≡ (scan_at 0 bytes).tokens → reading most_levels Grammar.lines first ≡ Ok (xs, now.operators, now.tokens)
-    → list_all is_ready xs ≡ true
-statements_ready bytes first now xs at reads =
-    let all : All short first.tokens = subst (λ ts. All short ts) (sym at) (names_short 0 (drop 0 bytes)) in
-    (reads_lines.holds first.operators first.tokens xs now.operators now.tokens all reads).0.0
-
--- numbering keeps what all of them pass
-numbered_pass : (test : Statement → Bool) (place : ℕ) (xs : List Statement) → list_all test xs ≡ true → list_all (all_of_step test) (steps_from place xs) ≡ true
-numbered_pass test place [] all = refl
-numbered_pass test place (x ∷ xs) all =
-    let (this, those) = both_parts (test x) (list_all test xs) all in
-    both_true (test x) (list_all (all_of_step test) (steps_from (place + 1) xs)) this (numbered_pass test (place + 1) xs those)
-
--- of what passes both tests, each passes both
-all_both : (p q : Statement → Bool) (xs : List Statement) → list_all (λ x. p x && q x) xs ≡ true → (list_all p xs ≡ true) × (list_all q xs ≡ true)
-all_both p q [] all = (refl, refl)
-all_both p q (x ∷ xs) all =
-    let (this, those) = both_parts (p x && q x) (list_all (λ y. p y && q y) xs) all in
-    let (px, qx) = both_parts (p x) (q x) this in
-    let (ps, qs) = all_both p q xs those in
-    (both_true (p x) (list_all p xs) px ps, both_true (q x) (list_all q xs) qx qs)
-
--- a script's statements are of these kinds and in form
-pub steps_ready : (bytes : List ℕ) (first now : Ahead) (xs : List Statement) (steps : List Step) → first.tokens ≡ (scan_at 0 bytes).tokens → reading most_levels Grammar.lines first ≡ Ok (xs, now.operators, now.tokens)
-    → steps ≡ steps_from 1 xs → AllStatements is_table_statement steps × AllStatements is_form steps
-steps_ready bytes first now xs steps at reads numbered =
-    let (kinds, forms) = all_both is_table_statement is_form xs (statements_ready bytes first now xs at reads) in
-    (subst (AllStatements is_table_statement) (sym numbered) (numbered_pass is_table_statement 1 xs kinds), subst (AllStatements is_form) (sym numbered) (numbered_pass is_form 1 xs forms))
+reads_statement = reads_either reads_create (reads_either reads_insert (reads_either reads_select (reads_either reads_update (reads_either reads_delete reads_transaction))))

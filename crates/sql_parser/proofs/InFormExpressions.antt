@@ -12,7 +12,7 @@ use Rattle.lake_model.specs.declared.expressions.Expr.TheFolds.{fold-roll-Expr}
 use Rattle.lake_model.specs.declared.expressions.Expr.TheOpen.{Expr-F}
 use Rattle.lake_model.specs.declared.expressions.Expr.TheVariants as expr
 use Rattle.lake_model.specs.declared.expressions.Ref.{Ref}
-use Rattle.lake_model.specs.Form.{is_name, are_names, names_step, has_names, operators_step, operators, is_expr}
+use Rattle.lake_model.specs.Form.{is_between, is_name, are_names, names_step, has_names, operators_step, operators, is_expr}
 use Rattle.sql_tokens.specs.declared.keywords.Keyword.TheVariants as keyword
 use Rattle.sql_tokens.specs.declared.lexemes.Lexed.{Lexed}
 use Rattle.sql_tokens.specs.declared.lexemes.Lexeme.{Lexeme}
@@ -25,17 +25,21 @@ use Rattle.sql_parser.specs.Classes.{Class, Sort, a_name, the_keyword, an_expres
 use Rattle.sql_parser.specs.Grammar.{Form, rules, key_operator, name, literal, joined, ref_of, reference, parenthesized, factor, chain_of, binary_op, product, sum, null_test, null_check, comparison, compared, tested, applied, test, negated, negation, conjunction, disjunction, expression}
 use Rattle.sql_parser.proofs.Yields.{Says, Yields, yields_one, yields_nothing, yields_as, yields_both, yields_either, yields_fork, yields_many, yields_afresh, yields_down}
 
--- a name among the tokens has at most 64 bytes
-abbrev pub is_short_name : Lexeme → Bool
-is_short_name (lexeme.Name w) = is_name w
-is_short_name _ = true
+abbrev pub is_session : ℕ → Bool
+is_session = is_between 1 16
 
-abbrev pub short : Lexed → Bool
-short t = is_short_name t.lexeme
+-- a name among the tokens has at most 64 bytes, and a session mark is of a session from 1 to 16
+abbrev pub is_bounded : Lexeme → Bool
+is_bounded (lexeme.Name w) = is_name w
+is_bounded (lexeme.Session n) = is_session n
+is_bounded _ = true
+
+abbrev pub bounded : Lexed → Bool
+bounded t = is_bounded t.lexeme
 
 -- each value that is read of the part is as P says
 pub record Reads {A : Type 0} (levels : ℕ) (g : Form A) (P : Says A) : Type 0 where
-  pub holds : Yields short (read rules levels g) P
+  pub holds : Yields bounded (read rules levels g) P
 
 -- a value that passes a test, and no more operators than before
 abbrev pub Passes : {A : Type 0} → (A → Bool) → Says A
@@ -114,34 +118,34 @@ both_true false b p q = absurd cc
 -- the ways in which parts are put together
 
 pub reads_token : {A : Type 0} {levels : ℕ} {cost : ℕ} {c : Class} {f : Lexed → A} (P : Says A)
-    → ((t : Lexed) (b : ℕ) → is_of c t ≡ true → cost ≤ b → short t ≡ true → P b (f t) (b - cost)) → Reads levels (one cost c f) P
-reads_token {A} {levels} {cost} {c} {f} P h = record { holds = yields_one short cost c f P rules levels h }
+    → ((t : Lexed) (b : ℕ) → is_of c t ≡ true → cost ≤ b → bounded t ≡ true → P b (f t) (b - cost)) → Reads levels (one cost c f) P
+reads_token {A} {levels} {cost} {c} {f} P h = record { holds = yields_one bounded cost c f P rules levels h }
 
 pub reads_as : {A B : Type 0} {levels : ℕ} {f : A → B} {g : Form A} {P : Says A} (Q : Says B) → Reads levels g P → ((b : ℕ) (x : A) (l : ℕ) → P b x l → Q b (f x) l)
     → Reads levels (as_ f g) Q
-reads_as {A} {B} {levels} {f} {g} {P} Q part h = record { holds = yields_as short f g P Q rules levels part.holds h }
+reads_as {A} {B} {levels} {f} {g} {P} Q part h = record { holds = yields_as bounded f g P Q rules levels part.holds h }
 
 pub reads_both : {A B : Type 0} {levels : ℕ} {g : Form A} {k : Form B} {P : Says A} {Q : Says B} (R : Says (A × B)) → Reads levels g P → Reads levels k Q
     → ((b : ℕ) (x : A) (m : ℕ) (y : B) (l : ℕ) → P b x m → Q m y l → R b (x, y) l) → Reads levels (both g k) R
-reads_both {A} {B} {levels} {g} {k} {P} {Q} R first second h = record { holds = yields_both short g k P Q R rules levels first.holds second.holds h }
+reads_both {A} {B} {levels} {g} {k} {P} {Q} R first second h = record { holds = yields_both bounded g k P Q R rules levels first.holds second.holds h }
 
 pub reads_either : {A : Type 0} {levels : ℕ} {g k : Form A} {P : Says A} → Reads levels g P → Reads levels k P → Reads levels (either g k) P
-reads_either {A} {levels} {g} {k} {P} first second = record { holds = yields_either short g k P rules levels first.holds second.holds }
+reads_either {A} {levels} {g} {k} {P} first second = record { holds = yields_either bounded g k P rules levels first.holds second.holds }
 
 pub reads_nothing : {A : Type 0} {levels : ℕ} {v : A} (P : Says A) → ((b : ℕ) → P b v b) → Reads levels (nothing v) P
-reads_nothing {A} {levels} {v} P h = record { holds = yields_nothing short v P rules levels h }
+reads_nothing {A} {levels} {v} P h = record { holds = yields_nothing bounded v P rules levels h }
 
 pub reads_many : {A : Type 0} {levels : ℕ} {room : Option ℕ} {lead : Option Class} {g : Form A} {P : Says A} (R : Option ℕ → Says (List A)) → Reads levels g P
     → ((room : Option ℕ) (b : ℕ) → R room b [] b)
     → ((room : Option ℕ) (b : ℕ) (x : A) (m : ℕ) (xs : List A) (l : ℕ) → has_room room ≡ true → P b x m → R (less_one room) m xs l → R room b (x ∷ xs) l)
     → Reads levels (many room lead g) (R room)
-reads_many {A} {levels} {room} {lead} {g} {P} R part none more = record { holds = yields_many short room lead g P R rules levels part.holds none more }
+reads_many {A} {levels} {room} {lead} {g} {P} R part none more = record { holds = yields_many bounded room lead g P R rules levels part.holds none more }
 
 pub reads_forked : {A B : Type 0} {levels : ℕ} {g : Form A} {choice : A → Bool} {k j : Form B} {P : Says A} (Q : A → Says B) (R : Says (A × B)) → Reads levels g P
     → ((x : A) → choice x ≡ true → Reads levels k (Q x)) → ((x : A) → choice x ≡ false → Reads levels j (Q x))
     → ((b : ℕ) (x : A) (m : ℕ) (y : B) (l : ℕ) → P b x m → Q x m y l → R b (x, y) l) → Reads levels (fork g choice k j) R
 reads_forked {A} {B} {levels} {g} {choice} {k} {j} {P} Q R first second third h = record {
-  holds = yields_fork short g choice k j P Q R rules levels first.holds (λ x is. (second x is).holds) (λ x is. (third x is).holds) h;
+  holds = yields_fork bounded g choice k j P Q R rules levels first.holds (λ x is. (second x is).holds) (λ x is. (third x is).holds) h;
 }
 
 pub reads_any : {A : Type 0} {levels : ℕ} {c : Class} {f : Lexed → A} → Reads levels (plain c f) Any
@@ -150,7 +154,7 @@ reads_any = reads_token Any (λ t b fits enough is. omega arith)
 reads_one : {A : Type 0} {levels : ℕ} {c : Class} {f : Lexed → A} → Reads levels (counted c f) TakesOne
 reads_one = reads_token TakesOne (λ t b fits enough is. omega arith)
 
-name_short : (x : Lexeme) → fits a_name x ≡ true → is_short_name x ≡ true → is_name (name_in (record { start = 0; end = 0; lexeme = x })) ≡ true
+name_short : (x : Lexeme) → fits a_name x ≡ true → is_bounded x ≡ true → is_name (name_in (record { start = 0; end = 0; lexeme = x })) ≡ true
 name_short (lexeme.Name w) fit is = is
 name_short (lexeme.Keyword k) fit is = absurd cc
 name_short (lexeme.Number n) fit is = absurd cc
@@ -219,7 +223,7 @@ Below levels = (n : ℕ) → n < levels → (Reads n disjunction Takes) × (Read
 
 reads_down : {levels cost : ℕ} {c : Class} {sort : Sort} (P Q : Says Expr) → ((n : ℕ) → n < levels → Reads n (rules sort) P) → ((b : ℕ) (x : Expr) (l : ℕ) → cost ≤ b → P (b - cost) x l → Q b x l)
     → Reads levels (down cost c sort) Q
-reads_down {levels} {cost} {c} {sort} P Q part h = record { holds = yields_down short cost c sort P Q rules levels (λ n lt. (part n lt).holds) h }
+reads_down {levels} {cost} {c} {sort} P Q part h = record { holds = yields_down bounded cost c sort P Q rules levels (λ n lt. (part n lt).holds) h }
 
 reads_parenthesized : {levels : ℕ} → Below levels → Reads levels parenthesized Takes
 unfolding parenthesized
@@ -375,6 +379,6 @@ pub reads_expression : {levels : ℕ} → Reads levels expression (Passes is_exp
 unfolding expression
 reads_expression {levels} = record {
   holds =
-      yields_afresh short 1000 disjunction Takes (Passes is_expr) rules levels (reads_disjunction {levels = levels} (below_all levels)).holds
+      yields_afresh bounded 1000 disjunction Takes (Passes is_expr) rules levels (reads_disjunction {levels = levels} (below_all levels)).holds
       (λ b x l p. (both_true (has_names x) (nat_le (operators x) 1000) p.0 (le-leb (operators x) 1000 (omega (arith, p.1))), omega arith));
 }

@@ -5,7 +5,6 @@ use Rattle.predictive_grammar.specs.Reading.{Answer, Refusal, Syntax, mapped, of
 use Rattle.predictive_grammar.proofs.Kept.{members_in_limit}
 use Rattle.predictive_grammar.proofs.Sound.{sound_in, sound_deeper}
 use Rattle.lake_model.specs.declared.scripts.Step.{Step}
-use Rattle.lake_model.specs.declared.statements.Statement.{Statement}
 use Rattle.sql_tokens.specs.declared.faults.BadToken.{BadToken}
 use Rattle.sql_tokens.specs.declared.faults.ParseFault.{ParseFault}
 use Rattle.sql_tokens.specs.declared.faults.ParseFault.TheVariants as fault
@@ -13,6 +12,7 @@ use Rattle.sql_tokens.specs.declared.faults.ScriptBad.{ScriptBad}
 use Rattle.sql_tokens.specs.declared.lexemes.Lexed.{Lexed}
 use Rattle.sql_tokens.specs.Places.{bad_of}
 use Rattle.sql_tokens.specs.Scans.{Scan, scan_at}
+use Rattle.sql_parser.specs.declared.scripts.Line.{Line}
 use Rattle.sql_parser.specs.declared.stops.Stop.{Stop}
 use Rattle.sql_parser.specs.declared.stops.Stop.TheVariants as stop
 use Rattle.sql_parser.specs.Ahead.{Ahead, Ending, Stops, reading, refusal_of, most_levels}
@@ -28,7 +28,7 @@ pub record AtFirst (bytes : List ℕ) (first : Ahead) : Type 0 where
   pub bytes_are : first.ending.bytes ≡ length bytes
   pub operators : first.operators ≡ 0
 
-pub few_lines : (before after : Ahead) (xs : List Statement) → reading most_levels lines before ≡ Ok (xs, after.operators, after.tokens) → length xs ≤ most_statements
+pub few_lines : (before after : Ahead) (xs : List Line) → reading most_levels lines before ≡ Ok (xs, after.operators, after.tokens) → length xs ≤ most_statements
 unfolding lines
 few_lines before after xs reads =
     let (front, joined, p) =
@@ -36,7 +36,7 @@ few_lines before after xs reads =
     members_in_limit words None (PhraseIn (Deeper rules 0 most_levels) line) most_statements (suc (length front)) before.operators front xs after.operators (le_refl _) (p (suc (length front)))
 
 -- the answer to what reading the lines gives
-abbrev pub answer : List ℕ → Scan → Answer Lexed (List Statement) → Result (List Step) ScriptBad
+abbrev pub answer : List ℕ → Scan → Answer Lexed (List Line) → Result (List Step) ScriptBad
 answer bytes s read = placed bytes (judged bytes s (of_all (mapped (steps_from 1) read)))
 
 from_lines : (bytes : List ℕ) (first : Ahead) → AtFirst bytes first → script_of bytes ≡ answer bytes (scan_at 0 bytes) (reading most_levels lines first)
@@ -55,13 +55,13 @@ something_behind : (bytes : List ℕ) (xs : List Step) (refused : Option BadToke
 something_behind bytes xs None ends = absurd cc
 something_behind bytes xs (Some at) ends = refl
 
-read_to_end : (bytes : List ℕ) (s : Scan) (xs : List Statement) (n : ℕ) (ts : List Lexed) → is_nil ts && is_none s.refused ≡ true
+read_to_end : (bytes : List ℕ) (s : Scan) (xs : List Line) (n : ℕ) (ts : List Lexed) → is_nil ts && is_none s.refused ≡ true
     → answer bytes s (Ok (xs, n, ts)) ≡ Ok (steps_from 1 xs)
 read_to_end bytes s xs n [] ends = nothing_behind bytes (steps_from 1 xs) s.refused ends
 read_to_end bytes s xs n (t ∷ ts) ends = absurd cc
 
 -- a script
-pub all_read : (bytes : List ℕ) (first now : Ahead) (xs : List Statement) → AtFirst bytes first → reading most_levels lines first ≡ Ok (xs, now.operators, now.tokens)
+pub all_read : (bytes : List ℕ) (first now : Ahead) (xs : List Line) → AtFirst bytes first → reading most_levels lines first ≡ Ok (xs, now.operators, now.tokens)
     → now.ending ≡ first.ending → is_all_read now ≡ true → script_of bytes ≡ Ok (steps_from 1 xs)
 all_read bytes first now xs at reads same ends =
     let refused : now.ending.refused ≡ (scan_at 0 bytes).refused = ap (λ (e : Ending). e.refused) same ∙ at.refused in
@@ -70,7 +70,7 @@ all_read bytes first now xs at reads same ends =
 
 -- a refused place
 
-not_to_end : (bytes : List ℕ) (s : Scan) (xs : List Statement) (n : ℕ) (ts : List Lexed) → is_nil ts && is_none s.refused ≡ false
+not_to_end : (bytes : List ℕ) (s : Scan) (xs : List Line) (n : ℕ) (ts : List Lexed) → is_nil ts && is_none s.refused ≡ false
     → answer bytes s (Ok (xs, n, ts)) ≡ Err (bad_of bytes (refused_in Syntax (length bytes) s.refused ts))
 not_to_end bytes s xs n [] left = something_behind bytes (steps_from 1 xs) s.refused left
 not_to_end bytes s xs n (t ∷ ts) left = refl
@@ -86,7 +86,7 @@ same_refusal bytes first now kind at same =
     let size : length bytes ≡ now.ending.bytes = sym (ap (λ (e : Ending). e.bytes) same ∙ at.bytes_are) in
     ap (λ n. refused_in kind n (scan_at 0 bytes).refused now.tokens) size ∙ ap (λ r. refused_in kind now.ending.bytes r now.tokens) refused
 
-pub left_over : (bytes : List ℕ) (first now : Ahead) (xs : List Statement) → AtFirst bytes first → reading most_levels lines first ≡ Ok (xs, now.operators, now.tokens)
+pub left_over : (bytes : List ℕ) (first now : Ahead) (xs : List Line) → AtFirst bytes first → reading most_levels lines first ≡ Ok (xs, now.operators, now.tokens)
     → now.ending ≡ first.ending → is_all_read now ≡ false → script_of bytes ≡ Err (bad_of bytes (refused_next Syntax now))
 left_over bytes first now xs at reads same left =
     let refused : now.ending.refused ≡ (scan_at 0 bytes).refused = ap (λ (e : Ending). e.refused) same ∙ at.refused in

@@ -7,7 +7,8 @@ pub mod Levels
 pub mod ListLoops
 pub mod Numbering
 pub mod Ranks
+pub mod ReadLines
 pub mod ScriptLaws
 pub mod Stopping
-pub mod ShortNames
+pub mod TokenBounds
 pub mod Yields

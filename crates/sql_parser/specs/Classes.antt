@@ -12,13 +12,14 @@ use Rattle.sql_tokens.specs.declared.signs.Sign.{Sign}
 use Rattle.sql_tokens.specs.declared.signs.Sign.TheVariants.{Equal, NotEqual, LessOrEqual, GreaterOrEqual, Less, Greater}
 use Rattle.sql_tokens.specs.declared.lexemes.Lexed.{Lexed}
 use Rattle.sql_tokens.specs.declared.lexemes.Lexeme.{Lexeme}
-use Rattle.sql_tokens.specs.declared.lexemes.Lexeme.TheVariants.{Name, Keyword as Word, Number, Text, Sign as Mark}
+use Rattle.sql_tokens.specs.declared.lexemes.Lexeme.TheVariants.{Name, Keyword as Word, Number, Text, Session, Sign as Mark}
 
 pub data Class : Type 0 where
   a_name : Class
   a_text : Class
   -- a number of at most this much
   a_number : ℕ → Class
+  a_session : Class
   the_keyword : Keyword → Class
   the_sign : Sign → Class
   a_comparison : Class
@@ -48,6 +49,7 @@ abbrev pub fits : Class → Lexeme → Bool
 fits a_name (Name w) = true
 fits a_text (Text w) = true
 fits (a_number most) (Number n) = nat_le n most
+fits a_session (Session n) = true
 fits (the_keyword k) (Word l) = same_keyword l k
 fits (the_sign s) (Mark t) = same_sign t s
 fits a_comparison (Mark t) = is_some (comparison_of t)
@@ -70,6 +72,9 @@ text_in t = elim t.lexeme [ Text w ↦ w | _ ↦ [] ]
 abbrev pub number_in : Lexed → ℕ
 number_in t = elim t.lexeme [ Number n ↦ n | _ ↦ 0 ]
 
+abbrev pub session_in : Lexed → ℕ
+session_in t = elim t.lexeme [ Session n ↦ n | _ ↦ 0 ]
+
 abbrev pub comparison_in : Lexed → CmpOp
 comparison_in t = elim t.lexeme [ Mark s ↦ unwrap_or (comparison_of s) Eq | _ ↦ Eq ]
 
@@ -78,6 +83,7 @@ abbrev pub apart : Class → Class → Bool
 apart a_name a_name = false
 apart a_text a_text = false
 apart (a_number m) (a_number n) = false
+apart a_session a_session = false
 apart (the_keyword k) (the_keyword l) = not (same_keyword k l)
 apart (the_sign s) (the_sign t) = not (same_sign s t)
 apart (the_sign s) a_comparison = not (is_some (comparison_of s))
@@ -89,6 +95,7 @@ abbrev pub same : Class → Class → Bool
 same a_name a_name = true
 same a_text a_text = true
 same (a_number m) (a_number n) = m == n
+same a_session a_session = true
 same (the_keyword k) (the_keyword l) = same_keyword k l
 same (the_sign s) (the_sign t) = same_sign s t
 same a_comparison a_comparison = true
@@ -98,6 +105,7 @@ abbrev pub lexeme_of : Class → Lexeme
 lexeme_of a_name = Name []
 lexeme_of a_text = Text []
 lexeme_of (a_number most) = Number 0
+lexeme_of a_session = Session 1
 lexeme_of (the_keyword k) = Word k
 lexeme_of (the_sign s) = Mark s
 lexeme_of a_comparison = Mark Equal

@@ -1,5 +1,5 @@
 -- The grammar of scripts. Each production says which tokens it is of and which part of a statement they are.
-use Rattle.std.specs.Prelude.{ℕ, ◌+◌, Bool, true, false, List, [], ◌∷◌, Option, Some, None, map, fold, is_none, is_some, pos, ◌-ℤ◌}
+use Rattle.std.specs.Prelude.{ℕ, ◌+◌, Bool, true, false, List, [], ◌∷◌, Option, Some, None, map, fold, is_none, is_some, unwrap_or, pos, ◌-ℤ◌}
 use Rattle.std.specs.List.{list_any}
 use Rattle.predictive_grammar.specs.Grammars.{Grammar, Rules, nothing, either, many, as_, down, afresh, fork, plain, counted, mark, counted_mark, maybe, listed, ◌<<◌, ◌>>◌, ◌&◌}
 use Rattle.lake_values.specs.declared.schemas.ColType.{ColType}
@@ -25,7 +25,7 @@ use Rattle.lake_model.specs.declared.statements.Select.{Select as Query}
 use Rattle.lake_model.specs.declared.statements.Set.{Set}
 use Rattle.lake_model.specs.declared.statements.SourceRef.{SourceRef}
 use Rattle.lake_model.specs.declared.statements.Statement.{Statement}
-use Rattle.lake_model.specs.declared.statements.Statement.TheVariants.{Create, Insert, Select, Update, Delete}
+use Rattle.lake_model.specs.declared.statements.Statement.TheVariants.{Create, Begin, Commit, RollBack, Insert, Select, Update, Delete}
 use Rattle.lake_model.specs.BoundForms.{is_aggregate}
 use Rattle.sql_tokens.specs.declared.keywords.Keyword.{Keyword}
 use Rattle.sql_tokens.specs.declared.keywords.Keyword.TheVariants as keyword
@@ -35,11 +35,12 @@ use Rattle.sql_parser.specs.declared.expressions.Chain.{Chain}
 use Rattle.sql_parser.specs.declared.expressions.Chain.TheVariants.{Product, Sum, Conjunction, Disjunction}
 use Rattle.sql_parser.specs.declared.expressions.BinaryOp.{BinaryOp}
 use Rattle.sql_parser.specs.declared.expressions.BinaryOp.TheVariants as binary
+use Rattle.sql_parser.specs.declared.scripts.Line.{Line}
 use Rattle.sql_parser.specs.declared.selects.Join.{Join}
 use Rattle.sql_parser.specs.declared.selects.Head.{Head}
 use Rattle.sql_parser.specs.declared.selects.Body.{Body}
 use Rattle.sql_parser.specs.declared.selects.Tail.{Tail}
-use Rattle.sql_parser.specs.Classes.{a_name, a_text, a_number, the_keyword, the_sign, a_comparison, an_expression, a_negation, words, name_in, text_in, number_in, comparison_in}
+use Rattle.sql_parser.specs.Classes.{a_name, a_text, a_number, a_session, the_keyword, the_sign, a_comparison, an_expression, a_negation, words, name_in, text_in, number_in, session_in, comparison_in}
 
 abbrev pub Form : Type 0 → Type 1
 Form A = Grammar words A
@@ -88,6 +89,10 @@ number_up_to most = plain (a_number most) number_in
 
 abbrev pub number : Form ℕ
 number = number_up_to most_number
+
+-- the mark of a session
+abbrev pub session : Form ℕ
+session = plain a_session session_in
 
 -- the sign of a comparison, which is an operator
 abbrev pub comparison : Form CmpOp
@@ -389,20 +394,41 @@ update =
 unfoldable pub delete : Form Statement
 delete = as_ (λ x. Delete x.0 x.1) (key keyword.Delete >> key keyword.From >> name & where_clause)
 
+-- transactions
+
+unfoldable pub begin : Form Statement
+begin = as_ (λ _. Begin) (key keyword.Begin >> maybe (key keyword.Transaction))
+
+unfoldable pub commit : Form Statement
+commit = as_ (λ _. Commit) (key keyword.Commit)
+
+unfoldable pub roll_back : Form Statement
+roll_back = as_ (λ _. RollBack) (key keyword.Rollback)
+
+unfoldable pub transaction : Form Statement
+transaction = begin <|> commit <|> roll_back
+
 -- scripts
 
 unfoldable pub statement : Form Statement
-statement = create <|> insert <|> select <|> update <|> delete
+statement = create <|> insert <|> select <|> update <|> delete <|> transaction
 
-unfoldable pub line : Form Statement
-line = statement << the sign.Semicolon
+-- the session that runs a statement: that of its mark, and without one the first
+unfoldable pub session_of_line : Form ℕ
+session_of_line = as_ (λ mark. unwrap_or mark 1) (maybe session)
 
--- a statement of session 1 as a step of its own
-abbrev pub step_of : ℕ → Statement → Step
-step_of place x = One (record { place = place; session = 1; statement = x })
+abbrev pub line_of : ℕ → Statement → Line
+line_of session x = record { session = session; statement = x }
 
--- the statements as steps, the first of them at this place
-abbrev pub steps_from : ℕ → List Statement → List Step
+unfoldable pub line : Form Line
+line = as_ (λ x. line_of x.0 x.1) (session_of_line & statement << the sign.Semicolon)
+
+-- a line as a step of its own
+abbrev pub step_of : ℕ → Line → Step
+step_of place x = One (record { place = place; session = x.session; statement = x.statement })
+
+-- the lines as steps, the first of them at this place
+abbrev pub steps_from : ℕ → List Line → List Step
 steps_from place [] = []
 steps_from place (x ∷ xs) = step_of place x ∷ steps_from (place + 1) xs
 
@@ -410,7 +436,7 @@ steps_from place (x ∷ xs) = step_of place x ∷ steps_from (place + 1) xs
 abbrev pub most_statements : ℕ
 most_statements = 4294967295
 
-unfoldable pub lines : Form (List Statement)
+unfoldable pub lines : Form (List Line)
 lines = many (Some most_statements) None line
 
 unfoldable pub script : Form (List Step)

@@ -7,7 +7,7 @@ use Rattle.sql_tokens.specs.declared.keywords.Keyword.TheVariants as keyword
 use Rattle.sql_tokens.specs.declared.signs.Sign.TheVariants as sign
 use Rattle.sql_parser.specs.Classes.{Class, the_keyword, the_sign, a_comparison, Sort, an_expression, a_negation, words}
 use Rattle.sql_parser.specs.ClassLaws.{classes}
-use Rattle.sql_parser.specs.Grammar.{literal, reference, parenthesized, factor, binary_op, product, sum, null_check, tested, test, negated, negation, conjunction, disjunction, rules, expression, where_clause, column_type, column, columns, distribution, create, tuple, insert, alias, counted_rows, count, argument, aggregate, item, second_name, source, same, join, group_clause, items, head, grouped, ungrouped, joins, body_behind_aggregate, body, order_by, direction, order_key, order_clause, limit_clause, tail, select, set, update, delete, statement, line, lines, script}
+use Rattle.sql_parser.specs.Grammar.{literal, reference, parenthesized, factor, binary_op, product, sum, null_check, tested, test, negated, negation, conjunction, disjunction, rules, expression, where_clause, column_type, column, columns, distribution, create, tuple, insert, alias, counted_rows, count, argument, aggregate, item, second_name, source, same, join, group_clause, items, head, grouped, ungrouped, joins, body_behind_aggregate, body, order_by, direction, order_key, order_clause, limit_clause, tail, select, set, update, delete, begin, commit, roll_back, transaction, statement, session_of_line, line, lines, script}
 
 -- what NOT may go on with, and what an expression may
 abbrev pub test_ends : List Class
@@ -21,7 +21,7 @@ abbrev pub sql : Definition
 sql = record { words = words; classes = classes; rules = rules; ends = ends; Value = List Step; grammar = script }
 
 whole_predictive : is_predictive classes rules ends script ≡ true
-unfolding literal reference parenthesized factor binary_op product sum null_check tested test negated negation conjunction disjunction expression where_clause column_type column columns distribution create tuple insert alias counted_rows count argument aggregate item second_name source same join group_clause items head grouped ungrouped joins body_behind_aggregate body order_by direction order_key order_clause limit_clause tail select set update delete statement line lines script
+unfolding literal reference parenthesized factor binary_op product sum null_check tested test negated negation conjunction disjunction expression where_clause column_type column columns distribution create tuple insert alias counted_rows count argument aggregate item second_name source same join group_clause items head grouped ungrouped joins body_behind_aggregate body order_by direction order_key order_clause limit_clause tail select set update delete begin commit roll_back transaction statement session_of_line line lines script
 whole_predictive = refl
 
 each_predictive : (sort : Sort) → is_predictive_sort classes rules ends sort ≡ true

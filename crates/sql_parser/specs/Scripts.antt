@@ -1,5 +1,5 @@
 -- What a script is: bytes whose tokens are a sentence of the grammar, and where bytes that are none are refused.
-use Rattle.std.specs.Prelude.{◌≡◌, ◌⊎◌, ◌↔◌, ◌<◌, ◌^◌, ℕ, List, [], ◌∷◌, None, Some, Result, Ok, Err, length, Bool, true, false}
+use Rattle.std.specs.Prelude.{◌≡◌, ◌⊎◌, ◌↔◌, ◌+◌, ◌<◌, ◌≤◌, ◌^◌, ℕ, List, [], ◌∷◌, None, Some, Result, Ok, Err, length, Bool, true}
 use Rattle.std.specs.List.{list_all}
 use Rattle.predictive_grammar.specs.Definitions.{IsSentence, read_sentence_alone}
 use Rattle.predictive_grammar.specs.Laws.{IsFirstRefused}
@@ -7,14 +7,12 @@ use Rattle.predictive_grammar.specs.Reading.{Refusal, Refused}
 use Rattle.lake_model.specs.declared.scripts.Step.{Step}
 use Rattle.lake_model.specs.declared.scripts.Step.TheVariants.{One, Parallel}
 use Rattle.lake_model.specs.declared.statements.Statement.{Statement}
-use Rattle.lake_model.specs.declared.statements.Statement.TheVariants.{Create, Insert, Select, Update, Delete}
 use Rattle.sql_tokens.specs.declared.faults.BadToken.{BadToken}
 use Rattle.sql_tokens.specs.declared.faults.ScriptBad.{ScriptBad}
 use Rattle.sql_tokens.specs.declared.lexemes.Lexed.{Lexed}
 use Rattle.sql_tokens.specs.Places.{bad_of}
 use Rattle.sql_tokens.specs.Scans.{Scan, scan_at}
 use Rattle.sql_parser.specs.Ahead.{most_levels}
-use Rattle.sql_parser.specs.Grammar.{steps_from}
 use Rattle.sql_parser.specs.Language.{sql}
 use Rattle.sql_parser.specs.Refusals.{refused_token, refused_end}
 
@@ -23,18 +21,16 @@ pub record IsScript (bytes : List ℕ) (steps : List Step) : Type 0 where
   pub all_tokens : (scan_at 0 bytes).refused ≡ None
   pub sentence : IsSentence sql most_levels 0 (scan_at 0 bytes).tokens steps
 
--- The steps are statements of session 1, numbered from 1, and their places have 32 bits.
-abbrev pub AreNumbered : List Step → Type 0
-AreNumbered steps = (statements : List Statement) × (length statements < 2 ^ 32) × (steps ≡ steps_from 1 statements)
+-- Each step is one statement, of a session from 1 to 16, and their places follow each other from this one on.
+abbrev pub AreNumberedFrom : ℕ → List Step → Type 0
+AreNumberedFrom place [] = Unit {0}
+AreNumberedFrom place (One n ∷ steps) = (n.place ≡ place) × (1 ≤ n.session) × (n.session ≤ 16) × AreNumberedFrom (place + 1) steps
+AreNumberedFrom place (Parallel group ∷ steps) = ⊥
 
--- a CREATE, INSERT, SELECT, UPDATE or DELETE
-abbrev pub is_table_statement : Statement → Bool
-is_table_statement (Create table columns distribution) = true
-is_table_statement (Insert table rows) = true
-is_table_statement (Select q) = true
-is_table_statement (Update table sets filter) = true
-is_table_statement (Delete table filter) = true
-is_table_statement x = false
+-- The steps are single statements of the sessions 1 to 16, numbered from 1, and their places have 32 bits.
+pub record AreNumbered (steps : List Step) : Type 0 where
+  pub in_turn : AreNumberedFrom 1 steps
+  pub few : length steps < 2 ^ 32
 
 -- a step all of whose statements pass a test
 abbrev pub all_of_step : (Statement → Bool) → Step → Bool

@@ -22,6 +22,7 @@ mod stops;
 mod tables;
 #[cfg(test)]
 mod tests;
+mod transactions;
 mod values;
 
 pub use laws::{one_answer, reads_exactly_scripts, refuses_first_place};

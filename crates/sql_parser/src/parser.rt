@@ -2,10 +2,10 @@ ghost use Rattle.std.specs.Prelude.{◌≡◌, ◌≤◌, ◌∷◌, [], ℕ, Li
 ghost use Rattle.std.specs.Option.{option_copied};
 ghost use Rattle.predictive_grammar.specs.Prediction.{begins};
 ghost use Rattle.sql_tokens.specs.Scans.{IsBehind, begun, scan_at};
-ghost use Rattle.sql_parser.specs.Classes.{comparison_of, a_name, a_text, a_number, a_comparison, the_keyword, the_sign, words};
+ghost use Rattle.sql_parser.specs.Classes.{comparison_of, a_name, a_text, a_number, a_session, a_comparison, the_keyword, the_sign, words};
 ghost use Rattle.sql_parser.specs.Ahead.{Gives, reading, is_at, refusal_of, next_lexeme_in, behind_first};
 ghost use Rattle.sql_parser.specs.Refusals.{kind_at, refused_next, is_all_read};
-ghost use Rattle.sql_parser.specs.Grammar.{key, the, operator, key_operator, name, text, number_up_to, comparison};
+ghost use Rattle.sql_parser.specs.Grammar.{key, the, operator, key_operator, name, text, number_up_to, session, comparison};
 
 use crate::stops::{Limits, Stop};
 use crate::values::MOST_NUMBER;
@@ -269,6 +269,27 @@ impl<'a> Parser<'a> {
                 let number = *number;
                 self.skip()?;
                 Ok(number)
+            }
+            _ => Err(Stop::Refused(Limits::Syntax)),
+        }
+    }
+
+    pub fn is_at_session(&self) -> bool
+        ensures { result ≡ is_at (a_session ∷ []) self.now }
+    {
+        matches!(self.peek(), Some(Lexeme::Session(_)))
+    }
+
+    /// The mark of a session.
+    pub fn session(&mut self) -> Result<u32, Stop>
+        ensures reads { Gives (λ x. x) result self.new (reading 0 session self.old) }
+        ensures ending { self.new.ending ≡ self.old.ending }
+    {
+        match self.peek() {
+            Some(Lexeme::Session(session)) => {
+                let session = *session;
+                self.skip()?;
+                Ok(session)
             }
             _ => Err(Stop::Refused(Limits::Syntax)),
         }

@@ -36,7 +36,7 @@ const LIMIT: ParseKind = ParseKind::Limit;
 const BIG: ParseKind = ParseKind::BigNumber;
 
 /// Bytes that are no script, and the first place that is wrong.
-const REFUSED: [(&str, u32, u32, ParseKind); 31] = [
+const REFUSED: [(&str, u32, u32, ParseKind); 46] = [
     ("SELECT 1;", 1, 9, SYNTAX),
     ("SELECT COUNT(*) FROM t JOIN u ON t.a = u.a;", 1, 24, SYNTAX),
     (
@@ -67,9 +67,26 @@ const REFUSED: [(&str, u32, u32, ParseKind); 31] = [
     ("SELECT * FROM t AT VERSION 2;", 1, 20, SYNTAX),
     ("SELECT * FROM t", 1, 16, SYNTAX),
     ("SELECT * FROM t -- no end\n", 2, 1, SYNTAX),
-    ("BEGIN;", 1, 1, SYNTAX),
-    ("@a SELECT * FROM t;", 1, 1, SYNTAX),
+    // a session mark has one letter from a to p, and a statement has one mark at most
+    ("@q COMMIT;", 1, 1, ParseKind::BadChar),
+    ("@A COMMIT;", 1, 1, ParseKind::BadChar),
+    ("@ab COMMIT;", 1, 1, ParseKind::BadChar),
+    ("COMMIT;\n@ a COMMIT;", 2, 1, ParseKind::BadChar),
+    ("@a;", 1, 3, SYNTAX),
+    ("@a", 1, 3, SYNTAX),
+    ("@a @b BEGIN;", 1, 4, SYNTAX),
+    ("@a COMMIT;\n@b COMMIT @c", 2, 11, SYNTAX),
+    ("SELECT a FROM t @b;", 1, 17, SYNTAX),
+    ("BEGIN", 1, 6, SYNTAX),
+    ("BEGIN COMMIT;", 1, 7, SYNTAX),
+    ("BEGIN TRANSACTION TRANSACTION;", 1, 19, SYNTAX),
+    ("TRANSACTION;", 1, 1, SYNTAX),
+    ("COMMIT TRANSACTION;", 1, 8, SYNTAX),
+    ("ROLLBACK TRANSACTION;", 1, 10, SYNTAX),
+    // words of statements that no script has
     ("COMPACT t;", 1, 1, SYNTAX),
+    ("CHECKPOINT t;", 1, 1, SYNTAX),
+    ("@p COLLECT;", 1, 4, SYNTAX),
     ("PARALLEL { }", 1, 1, SYNTAX),
     ("CREATE TABLE select (a INT);", 1, 14, SYNTAX),
     ("CREATE TABLE t (a INT,);", 1, 23, SYNTAX),
@@ -108,7 +125,8 @@ const LONG: &str = "-- all forms\n\
     SELECT s.a FROM t s INNER JOIN u ON s.a = u.a AND s.b = u.b JOIN v ON u.c = v.c WHERE s.a * 2 >= 1;\n\
     SELECT a, COUNT(*), count(a), SUM(a - 1) AS total, MIN(b), MAX(b) FROM t WHERE a <> 1 GROUP BY a, t.b;\n\
     UPDATE t SET a = a * (2 + 1) - - 9223372036854775808, b = NULL WHERE a <= 1 AND b IS NULL;\n\
-    DELETE FROM t; DELETE FROM t WHERE a > 1;";
+    DELETE FROM t; DELETE FROM t WHERE a > 1;\n\
+    @b BEGIN TRANSACTION; @p COMMIT; ROLLBACK;";
 
 #[test]
 fn scripts_are_read(rt: HostRuntime) -> Result<(), Fail> {
@@ -116,7 +134,7 @@ fn scripts_are_read(rt: HostRuntime) -> Result<(), Fail> {
     for (text, statements) in [
         ("", 0),
         (" \t\r\n-- only a comment \u{ff}", 0),
-        (LONG, 9),
+        (LONG, 12),
         ("select*from t;select count(*)from t;", 2),
         ("SELECT a FROM t at;", 1),
         ("SELECT at.version FROM version at;", 1),
@@ -130,6 +148,52 @@ fn scripts_are_read(rt: HostRuntime) -> Result<(), Fail> {
             .ok()
             .ok_or("no script")?;
         assert_eq!(rt; script.len(), statements, "{text}");
+    }
+    Ok(())
+}
+
+fn kind_of(statement: &Statement) -> &'static str {
+    match statement {
+        Statement::Begin => "begin",
+        Statement::Commit => "commit",
+        Statement::RollBack => "rollback",
+        Statement::Delete { .. } => "delete",
+        _ => "another",
+    }
+}
+
+/// The place, the session and the kind of each statement.
+fn kinds(alloc: Global, text: &str) -> Result<String, Fail> {
+    let script = parse_script(alloc, text.as_bytes())
+        .ok()
+        .ok_or("no script")?;
+    let mut kinds = String::new(alloc);
+    for step in script.list() {
+        let Step::One(numbered) = step else {
+            return None.ok_or("a block")?;
+        };
+        let kind = kind_of(&numbered.statement);
+        write!(kinds, "{} of {}: {kind}|", numbered.place, numbered.session)?;
+    }
+    Ok(kinds)
+}
+
+#[test]
+fn statements_have_the_session_of_their_mark_or_the_first(rt: HostRuntime) -> Result<(), Fail> {
+    for (text, wanted) in [
+        ("@b BEGIN; COMMIT;", "1 of 2: begin|2 of 1: commit|"),
+        ("@a COMMIT;@p\nCOMMIT;", "1 of 1: commit|2 of 16: commit|"),
+        (
+            "BEGIN TRANSACTION;@c--a comment\nbegin transaction ;@o DELETE FROM t;",
+            "1 of 1: begin|2 of 3: begin|3 of 15: delete|",
+        ),
+        (
+            "@h ROLLBACK; rollback;",
+            "1 of 8: rollback|2 of 1: rollback|",
+        ),
+    ] {
+        let found = kinds(rt.alloc(), text)?;
+        assert_eq!(rt; found.as_str(), wanted, "{text}");
     }
     Ok(())
 }

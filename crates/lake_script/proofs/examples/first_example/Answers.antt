@@ -13,12 +13,12 @@ use Rattle.lake_script.specs.Examples.{entries, query_of}
 use Rattle.sql_tokens.specs.Tokens.{keyword_of, word, number, closed_text, text, session, double_sign, single_sign, sign_front, front, gap}
 use Rattle.sql_tokens.specs.Scans.{scan, scan_behind}
 use Rattle.sql_parser.specs.Ahead.{most_levels}
-use Rattle.sql_parser.specs.Grammar.{literal, reference, parenthesized, factor, binary_op, product, sum, null_check, tested, test, negated, negation, conjunction, disjunction, expression, where_clause, column_type, column, columns, distribution, create, tuple, insert, alias, counted_rows, count, argument, aggregate, item, second_name, source, same, join, group_clause, items, head, grouped, ungrouped, joins, body_behind_aggregate, body, order_by, direction, order_key, order_clause, limit_clause, tail, select, set, update, delete, statement, line, lines, script}
+use Rattle.sql_parser.specs.Grammar.{literal, reference, parenthesized, factor, binary_op, product, sum, null_check, tested, test, negated, negation, conjunction, disjunction, expression, where_clause, column_type, column, columns, distribution, create, tuple, insert, alias, counted_rows, count, argument, aggregate, item, second_name, source, same, join, group_clause, items, head, grouped, ungrouped, joins, body_behind_aggregate, body, order_by, direction, order_key, order_clause, limit_clause, tail, select, set, update, delete, begin, commit, roll_back, transaction, statement, session_of_line, line, lines, script}
 use Rattle.sql_parser.specs.Scripts.{script_of}
 use Rattle.lake_script.proofs.examples.first_example.Goals as goal
 
 pub returns-clause-script : goal.returns-clause-script
-unfolding script_of most_levels scan scan_behind keyword_of word number closed_text text session double_sign single_sign sign_front front gap literal reference parenthesized factor binary_op product sum null_check tested test negated negation conjunction disjunction expression where_clause column_type column columns distribution create tuple insert alias counted_rows count argument aggregate item second_name source same join group_clause items head grouped ungrouped joins body_behind_aggregate body order_by direction order_key order_clause limit_clause tail select set update delete statement line lines script
+unfolding script_of most_levels scan scan_behind keyword_of word number closed_text text session double_sign single_sign sign_front front gap literal reference parenthesized factor binary_op product sum null_check tested test negated negation conjunction disjunction expression where_clause column_type column columns distribution create tuple insert alias counted_rows count argument aggregate item second_name source same join group_clause items head grouped ungrouped joins body_behind_aggregate body order_by direction order_key order_clause limit_clause tail select set update delete begin commit roll_back transaction statement session_of_line line lines script
 returns-clause-script c = refl
 
 -- no rows are part of all rows
@@ -84,9 +84,9 @@ pub returns-clause-row_left_out : goal.returns-clause-row_left_out
 returns-clause-row_left_out c = λ f. three_rows (ap row_count f.runs.1.1.0.answers.1.0.right.1)
 
 pub returns-clause-unended : goal.returns-clause-unended
-unfolding script_of most_levels scan scan_behind keyword_of word number closed_text text session double_sign single_sign sign_front front gap literal reference parenthesized factor binary_op product sum null_check tested test negated negation conjunction disjunction expression where_clause column_type column columns distribution create tuple insert alias counted_rows count argument aggregate item second_name source same join group_clause items head grouped ungrouped joins body_behind_aggregate body order_by direction order_key order_clause limit_clause tail select set update delete statement line lines script
+unfolding script_of most_levels scan scan_behind keyword_of word number closed_text text session double_sign single_sign sign_front front gap literal reference parenthesized factor binary_op product sum null_check tested test negated negation conjunction disjunction expression where_clause column_type column columns distribution create tuple insert alias counted_rows count argument aggregate item second_name source same join group_clause items head grouped ungrouped joins body_behind_aggregate body order_by direction order_key order_clause limit_clause tail select set update delete begin commit roll_back transaction statement session_of_line line lines script
 returns-clause-unended c = refl
 
 pub returns-clause-other_query : goal.returns-clause-other_query
-unfolding script_of most_levels scan scan_behind keyword_of word number closed_text text session double_sign single_sign sign_front front gap literal reference parenthesized factor binary_op product sum null_check tested test negated negation conjunction disjunction expression where_clause column_type column columns distribution create tuple insert alias counted_rows count argument aggregate item second_name source same join group_clause items head grouped ungrouped joins body_behind_aggregate body order_by direction order_key order_clause limit_clause tail select set update delete statement line lines script
+unfolding script_of most_levels scan scan_behind keyword_of word number closed_text text session double_sign single_sign sign_front front gap literal reference parenthesized factor binary_op product sum null_check tested test negated negation conjunction disjunction expression where_clause column_type column columns distribution create tuple insert alias counted_rows count argument aggregate item second_name source same join group_clause items head grouped ungrouped joins body_behind_aggregate body order_by direction order_key order_clause limit_clause tail select set update delete begin commit roll_back transaction statement session_of_line line lines script
 returns-clause-other_query c = refl

@@ -6,7 +6,7 @@ use Rattle.sql_tokens.specs.declared.faults.ScriptBad.{ScriptBad}
 use Rattle.sql_tokens.specs.Places.{bad_of}
 use Rattle.predictive_grammar.specs.Reading.{Syntax}
 use Rattle.sql_parser.specs.Refusals.{refused_next}
-use Rattle.sql_parser.proofs.InForm.{steps_ready}
+use Rattle.sql_parser.proofs.ReadLines.{steps_ready}
 use Rattle.sql_parser.proofs.Judging.{AtFirst, all_read, left_over, stopped}
 use Rattle.sql_parser.proofs.scripts.parse_script.Goals as goal
 
@@ -19,18 +19,19 @@ returns-in-Ok-clause-script c =
       operators = c.in_ok-parser.ensures.operators;
     } in
     rw c.in_ok-steps_of-in-Ok.ensures
-    (all_read c.args.bytes.now c.in_ok-parser.parser c.lines.new.parser c.in-Ok.statements at c.in-Ok.ensures.reads c.in-Ok.ensures.ending (sym c.is_at_end.ensures ∙ c.if-is_at_end.true))
+    (all_read c.args.bytes.now c.in_ok-parser.parser c.lines.new.parser c.in-Ok.lines at c.in-Ok.ensures.reads c.in-Ok.ensures.ending (sym c.is_at_end.ensures ∙ c.if-is_at_end.true))
 
 pub returns-in-Ok-clause-numbered : goal.returns-in-Ok-clause-numbered
-returns-in-Ok-clause-numbered c = (c.in-Ok.statements, c.in-Ok.ensures.few, c.in_ok-steps_of-in-Ok.ensures)
+returns-in-Ok-clause-numbered c =
+    (steps_ready c.args.bytes.now c.in_ok-parser.parser c.lines.new.parser c.in-Ok.lines _ c.in_ok-parser.ensures.tokens c.in-Ok.ensures.reads c.in-Ok.ensures.few c.in_ok-steps_of-in-Ok.ensures).numbered
 
 pub returns-in-Ok-clause-kinds : goal.returns-in-Ok-clause-kinds
 returns-in-Ok-clause-kinds c =
-    (steps_ready c.args.bytes.now c.in_ok-parser.parser c.lines.new.parser c.in-Ok.statements _ c.in_ok-parser.ensures.tokens c.in-Ok.ensures.reads c.in_ok-steps_of-in-Ok.ensures).0
+    (steps_ready c.args.bytes.now c.in_ok-parser.parser c.lines.new.parser c.in-Ok.lines _ c.in_ok-parser.ensures.tokens c.in-Ok.ensures.reads c.in-Ok.ensures.few c.in_ok-steps_of-in-Ok.ensures).kinds
 
 pub returns-in-Ok-clause-in_form : goal.returns-in-Ok-clause-in_form
 returns-in-Ok-clause-in_form c =
-    (steps_ready c.args.bytes.now c.in_ok-parser.parser c.lines.new.parser c.in-Ok.statements _ c.in_ok-parser.ensures.tokens c.in-Ok.ensures.reads c.in_ok-steps_of-in-Ok.ensures).1
+    (steps_ready c.args.bytes.now c.in_ok-parser.parser c.lines.new.parser c.in-Ok.lines _ c.in_ok-parser.ensures.tokens c.in-Ok.ensures.reads c.in-Ok.ensures.few c.in_ok-steps_of-in-Ok.ensures).forms
 
 same_place : (fault : ParseFault) (place bad : ScriptBad) → fault ≡ Refused place → ◌≡◌ {A = Result (List Step) ParseFault} (Err fault) (Err (Refused bad)) → place ≡ bad
 same_place fault place bad is same = cc

@@ -1,0 +1,14 @@
+CREATE TABLE t (a INT);
+INSERT INTO t VALUES (1), (2);
+@a BEGIN;
+@b BEGIN;
+@a DELETE FROM t WHERE a = 1;
+@b DELETE FROM t WHERE a = 2;
+@b SELECT * FROM t;
+@a COMMIT;
+@b COMMIT;
+@b BEGIN;
+@b SELECT * FROM t;
+@b DELETE FROM t WHERE a = 2;
+@b COMMIT;
+SELECT * FROM t;
