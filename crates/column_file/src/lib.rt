@@ -1,10 +1,12 @@
 //! Column files: the rows of a table in columns, as their bytes.
+//!
+//! What the clauses say: `encode` gives exactly the one spelling of a file. `decode_file` answers
+//! exactly what reading the bytes answers (`exact`): a file exactly where its spelling is what was
+//! read (`found`, `only`), else the first bad field.
 #![tactic(auto)]
 
 mod columns;
 mod decode;
-#[cfg(test)]
-mod tests;
 mod transpose;
 mod write;
 

@@ -1,6 +1,7 @@
 ghost use Rattle.std.specs.Prelude.{◌≡◌, ◌<◌, ◌≤◌, true, All, length, IfOk, IfSome, IfNone};
 ghost use Rattle.lake_values.specs.Lending.{owned, IsShort};
-ghost use Rattle.row_packet.specs.Packets.{HaveWidth, row_at, value_at};
+ghost use Rattle.row_packet.specs.Packets.{HaveWidth, row_at};
+ghost use Rattle.lake_values.specs.Rows.{value_at};
 ghost use Rattle.data_cell.specs.Live.{is_live, live_rows, NoneLive};
 
 use crate::positions::behind;

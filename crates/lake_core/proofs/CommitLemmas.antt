@@ -4,34 +4,36 @@ use Rattle.std.specs.Prelude.{IfSome, IsSomeAnd, MatchBool, find, is_some, vec_l
 use Rattle.std.specs.Option.{option_map_or}
 use Rattle.std.proofs.lemmas.List.{length-append}
 use Rattle.std.specs.List.{AllByRecursion, list_any}
-use Rattle.lake_model.specs.declared.entries.Added.{Added}
-use Rattle.lake_model.specs.declared.entries.Change.{Change}
+use Rattle.sql_model.specs.declared.changes.Added.{Added}
+use Rattle.sql_model.specs.declared.changes.Change.{Change}
 use Rattle.lake_model.specs.declared.entries.Fact.TheVariants as fact
-use Rattle.lake_model.specs.declared.entries.Mark.{Mark}
-use Rattle.lake_model.specs.declared.entries.MarkedRow.{MarkedRow}
-use Rattle.lake_model.specs.Changes.{added_to, applied, is_nil, is_unchanged, marked_cmp, removed_from, units_of, version_after, without}
+use Rattle.sql_model.specs.declared.changes.Mark.{Mark}
+use Rattle.sql_model.specs.declared.changes.MarkedRow.{MarkedRow}
+use Rattle.sql_model.specs.Changes.{added_to, applied, is_nil, is_unchanged, marked_cmp, removed_from, version_after, without}
+use Rattle.sql_model.specs.Units.{units_of, ConflictUnit, marks_of, same_unit, share_unit, whole_table, units_of_marks}
 use Rattle.lake_model.specs.Allowed.{MayConflict}
-use Rattle.lake_model.specs.Conflicts.{first_conflict, numbers, wrote_one}
-use Rattle.lake_model.specs.Listing.{SameBag, weight}
+use Rattle.lake_model.specs.Conflicts.{first_conflict, wrote_one}
+use Rattle.sql_model.specs.Listing.{numbers, SameBag, weight}
 use Rattle.lake_model.specs.State.{State, Transaction, after_commit, ended, last, newest, transaction, version_at, with_version}
-use Rattle.lake_model.specs.Versions.{ConflictUnit, Tables, Version, same_unit, share_unit, whole_table, same_text}
-use Rattle.lake_model.proofs.Bags.{same_filter, same_map}
-use Rattle.lake_model.proofs.Lists.{all_append, all_filter, all_weaker}
-use Rattle.lake_model.proofs.Texts.{same_text_sym}
+use Rattle.sql_model.specs.Versions.{Tables, Version}
+use Rattle.lake_values.specs.Texts.{same_text}
+use Rattle.sql_model.proofs.Bags.{same_filter, same_map}
+use Rattle.sql_model.proofs.Lists.{all_append, all_filter, all_weaker}
+use Rattle.lake_values.proofs.SameTexts.{same_text_sym}
 use Rattle.table_history.proofs.StrikeLemmas.{struck_all}
-use Rattle.table_history.specs.Histories.{GrowsBy, History, change_from, has_room, last_of, newest_of, rows_for}
+use Rattle.table_history.specs.Histories.{GrowsBy, History, change_from, has_spare_rows, last_of, newest_of, rows_for}
 use Rattle.table_history.specs.Strikes.{same_marked, struck, times}
 use Rattle.write_set_catalog.specs.Catalogs.{Catalogued, IsBehind}
-use Rattle.write_set_catalog.specs.Rows.{HasNoConflict, IsFirstConflict, is_conflict, units_of_marks, units_of_row, writes_one}
+use Rattle.write_set_catalog.specs.Rows.{HasNoConflict, IsFirstConflict, is_conflict, units_of_row, writes_one}
 use Rattle.write_set_catalog.specs.declared.rows.CatRow.{CatRow}
-use Rattle.lake_core.specs.declared.transactions.Open.{Open}
+use Rattle.lake_core.specs.declared.transactions.KeptTransaction.{KeptTransaction}
 use Rattle.lake_core.specs.declared.commits.Ready.{Ready}
 use Rattle.lake_core.specs.Facts as facts
-use Rattle.lake_core.specs.Homes.{HasRooms, IsHistory, StandsFor}
-use Rattle.lake_core.specs.Rooms.{AreOpen, IsOpen, IsReady, IsRoomFor, IsWritten, LeavesRooms, catalog_rows_for, entries_for, rows_share, stamped, table_rows_for, total, units_of_rows}
+use Rattle.lake_core.specs.Consistency.{HasRooms, IsHistory, StandsFor}
+use Rattle.lake_core.specs.Rooms.{AreOpen, IsOpen, RoomFits, IsRoomFor, IsWritten, LeavesRooms, catalog_rows_for, entries_for, rows_share, stamped, table_rows_for, total, units_of_rows}
 use Rattle.lake_core.specs.declared.transactions.Room.{Room}
 use Rattle.lake_core.proofs.OpenLemmas.{number_self, number_sym, same_number, unchanged_same}
-use Rattle.lake_core.proofs.HomeLemmas.{fewer_rows, further, history_more, last_same, newest_same, not_yet, version_more}
+use Rattle.lake_core.proofs.ConsistencyLemmas.{fewer_rows, further, history_more, last_same, newest_same, not_yet, version_more}
 
 -- a member that passes
 
@@ -111,7 +113,8 @@ share_sym (u ∷ us) vs =
     ∙ sym (any_or (λ v. same_unit v u) (λ v. list_any (same_unit v) us) vs)
 
 pub units_bag : (xs ys : List MarkedRow) (us : List ConflictUnit) → SameBag xs ys → share_unit (units_of_rows xs) us ≡ share_unit (units_of_rows ys) us
-units_bag xs ys us same = any_bag (λ u. list_any (same_unit u) us) (units_of_rows xs) (units_of_rows ys) (same_map (λ m. whole_table m.mark.table) xs ys same)
+units_bag xs ys us same = any_bag (λ u. list_any (same_unit u) us) (units_of_rows xs) (units_of_rows ys)
+    (same_map (λ m. whole_table m.table) (marks_of xs) (marks_of ys) (same_map (λ m. m.mark) xs ys same))
 
 -- what the catalogue says of a transaction that removed these rows
 
@@ -274,23 +277,23 @@ written_more st st' v old new seq more is written says =
 
 -- what the commit of a transaction needs, and what there is of it
 
-pub rooms_committed : (rs rs' : List Open) (r : Open) (room : Room) (h h' : History) (catalog catalog' : Catalogued) (spare spare' : ℕ) → HasRooms rs h catalog spare → r.room ≡ Some room → (AllByRecursion IsReady rs → AllByRecursion IsReady rs') →
-    ((g : Open → ℕ) → total g rs ≡ g r + total g rs') → spare ≤ spare' + 1 → catalog.spare ≤ catalog'.spare + vec_len room.rows →
-    ((name : List ℕ) (rows : ℕ) → has_room h.spares name (rows_for name r.added.items + rows) ≡ true → has_room h'.spares name rows ≡ true) → HasRooms rs' h' catalog' spare'
+pub rooms_committed : (rs rs' : List KeptTransaction) (r : KeptTransaction) (room : Room) (h h' : History) (catalog catalog' : Catalogued) (spare spare' : ℕ) → HasRooms rs h catalog spare → r.room ≡ Some room → (AllByRecursion RoomFits rs → AllByRecursion RoomFits rs') →
+    ((g : KeptTransaction → ℕ) → total g rs ≡ g r + total g rs') → spare ≤ spare' + 1 → catalog.spare ≤ catalog'.spare + vec_len room.rows →
+    ((name : List ℕ) (rows : ℕ) → has_spare_rows h.spares name (rows_for name r.added.items + rows) ≡ true → has_spare_rows h'.spares name rows ≡ true) → HasRooms rs' h' catalog' spare'
 rooms_committed rs rs' r room h h' catalog catalog' spare spare' rooms is ready weights entry rows tables =
     let there : is_some r.room ≡ true = ap (λ (o : Option Room). is_some o) is in
     let one : entries_for r ≡ 1 = ap (λ (b : Bool). if b then 1 else 0) there in
     let own : catalog_rows_for r ≡ vec_len room.rows = ap (λ (o : Option Room). option_map_or (λ (x : Room). vec_len x.rows) o 0) is in
     record {
-      ready = ready rooms.ready;
+      fit = ready rooms.fit;
       entries = omega (arith, weights entries_for, one, rooms.entries, entry);
       catalog_rows = omega (arith, weights catalog_rows_for, own, rooms.catalog_rows, rows);
       table_rows = λ name.
           let mine : table_rows_for name r ≡ rows_for name r.added.items = ap (λ (b : Bool). if b then rows_for name r.added.items else 0) there in
-          tables name (total (table_rows_for name) rs') (ap (has_room h.spares name) (sym (weights (table_rows_for name) ∙ ap (λ (n : ℕ). n + total (table_rows_for name) rs') mine)) ∙ rooms.table_rows name);
+          tables name (total (table_rows_for name) rs') (ap (has_spare_rows h.spares name) (sym (weights (table_rows_for name) ∙ ap (λ (n : ℕ). n + total (table_rows_for name) rs') mine)) ∙ rooms.table_rows name);
     }
 
-pub committed_stands : (st : State) (session : ℕ) (t : Transaction) (count : ℕ) (h h' : History) (rs rs' : List Open) (catalog catalog' : Catalogued) (spare spare' number : ℕ) (removed : List MarkedRow) (added : List Added) (room : Room) → StandsFor st count h rs catalog spare number →
+pub committed_stands : (st : State) (session : ℕ) (t : Transaction) (count : ℕ) (h h' : History) (rs rs' : List KeptTransaction) (catalog catalog' : Catalogued) (spare spare' number : ℕ) (removed : List MarkedRow) (added : List Added) (room : Room) → StandsFor st count h rs catalog spare number →
     transaction st session ≡ Some t → SameBag removed t.pending.removed → added ≡ t.pending.added → IsRoomFor removed room → GrowsBy h h' (applied (last_of h + 1) (change_from removed added) (newest_of h)) → catalog'.rows ≡ catalog.rows ++ map (stamped (last_of h + 1)) room.rows.items →
     AreOpen (ended session st).running rs' → LeavesRooms session rs rs' → HasRooms rs' h' catalog' spare' → StandsFor (after_commit session [] [] st) (count + 1) h' rs' catalog' spare' number
 committed_stands st session t count h h' rs rs' catalog catalog' spare spare' number removed added room stands here bag is made grown rows open_ leaves rooms =
@@ -320,26 +323,26 @@ committed_stands st session t count h h' rs rs' catalog catalog' spare spare' nu
 pub some_and : {X : Type 0} (P : X → Type 0) (o : Option X) (x : X) → o ≡ Some x → P x → IsSomeAnd o P
 some_and {X} P o x e p = let Q : Option X → Type 0 = λ q. IsSomeAnd q P in subst Q (sym e) p
 
-pub unchanged_is : (o : ℕ × Transaction) (r : Open) (ready : Ready) (result : Bool) → IsOpen o r → ready.removed ≡ r.removed → ready.added ≡ r.added → result ≡ (is_nil ready.removed.items && is_nil ready.added.items) → is_unchanged o.1.pending ≡ result
+pub unchanged_is : (o : ℕ × Transaction) (r : KeptTransaction) (ready : Ready) (result : Bool) → IsOpen o r → ready.removed ≡ r.removed → ready.added ≡ r.added → result ≡ (is_nil ready.removed.items && is_nil ready.added.items) → is_unchanged o.1.pending ≡ result
 unchanged_is o r ready result is removed added tested =
     sym (unchanged_same o r is) ∙ (λ i. is_nil (sym removed i).items && is_nil (sym added i).items) ∙ sym tested
 
-pub ready_made : (r : Open) (ready : Ready) → IsReady r → ready.removed ≡ r.removed → r.room ≡ Some ready.room → IsRoomFor ready.removed.items ready.room
+pub ready_made : (r : KeptTransaction) (ready : Ready) → RoomFits r → ready.removed ≡ r.removed → r.room ≡ Some ready.room → IsRoomFor ready.removed.items ready.room
 ready_made r ready is removed room =
     let P : Option Room → Type 0 = λ o. IfSome o (IsRoomFor r.removed.items) in
     let made : IsRoomFor r.removed.items ready.room = subst P room is in
     subst (λ (rows : _). IsRoomFor rows.items ready.room) (sym removed) made
 
-pub bag_ready : (o : ℕ × Transaction) (r : Open) (ready : Ready) → IsOpen o r → ready.removed ≡ r.removed → SameBag ready.removed.items o.1.pending.removed
+pub bag_ready : (o : ℕ × Transaction) (r : KeptTransaction) (ready : Ready) → IsOpen o r → ready.removed ≡ r.removed → SameBag ready.removed.items o.1.pending.removed
 bag_ready o r ready is removed = subst (λ (rows : _). SameBag rows.items o.1.pending.removed) (sym removed) is.removed
 
-pub conflict_ready : (st : State) (rows : List CatRow) (o : ℕ × Transaction) (r : Open) (ready : Ready) (seq : ℕ) → IsWritten st rows → IsOpen o r → IsReady r → ready.snapshot ≡ r.snapshot → ready.removed ≡ r.removed → r.room ≡ Some ready.room →
+pub conflict_ready : (st : State) (rows : List CatRow) (o : ℕ × Transaction) (r : KeptTransaction) (ready : Ready) (seq : ℕ) → IsWritten st rows → IsOpen o r → RoomFits r → ready.snapshot ≡ r.snapshot → ready.removed ≡ r.removed → r.room ≡ Some ready.room →
     IsFirstConflict ready.snapshot ready.room.marks rows seq → first_conflict st o.1.snapshot (units_of o.1.pending) ≡ Some seq
 conflict_ready st rows o r ready seq written is reserved snapshot removed room found =
     ap (λ (n : ℕ). first_conflict st n (units_of o.1.pending)) (sym is.snapshot ∙ sym snapshot)
     ∙ conflict_some st rows ready.removed.items o.1.pending ready.room ready.snapshot seq written (ready_made r ready reserved removed room) (bag_ready o r ready is removed) found
 
-pub free_ready : (st : State) (rows : List CatRow) (o : ℕ × Transaction) (r : Open) (ready : Ready) → IsWritten st rows → IsOpen o r → IsReady r → ready.snapshot ≡ r.snapshot → ready.removed ≡ r.removed → r.room ≡ Some ready.room →
+pub free_ready : (st : State) (rows : List CatRow) (o : ℕ × Transaction) (r : KeptTransaction) (ready : Ready) → IsWritten st rows → IsOpen o r → RoomFits r → ready.snapshot ≡ r.snapshot → ready.removed ≡ r.removed → r.room ≡ Some ready.room →
     HasNoConflict ready.snapshot ready.room.marks rows → first_conflict st o.1.snapshot (units_of o.1.pending) ≡ None
 free_ready st rows o r ready written is reserved snapshot removed room none =
     ap (λ (n : ℕ). first_conflict st n (units_of o.1.pending)) (sym is.snapshot ∙ sym snapshot)
@@ -368,14 +371,14 @@ may_conflict st seq t changed found =
 pub behind_last : (st : State) (h : History) (rows : List CatRow) → IsHistory st h → IsWritten st rows → IsBehind rows (last_of h + 1)
 behind_last st h rows kept written = all_weaker {P = λ r. r.seq + 1 ≤ length st.versions} {Q = λ r. r.seq ≤ last_of h + 1} rows (λ r within. omega (arith, within, kept.counted)) written.within
 
-pub room_ready : (rs rs' : List Open) (r : Open) (ready : Ready) (h : History) (catalog : Catalogued) (spare : ℕ) → HasRooms rs h catalog spare → r.room ≡ Some ready.room → ready.added ≡ r.added → ((g : Open → ℕ) → total g rs ≡ g r + total g rs') →
-    (name : List ℕ) → has_room h.spares name (rows_for name ready.added.items) ≡ true
+pub room_ready : (rs rs' : List KeptTransaction) (r : KeptTransaction) (ready : Ready) (h : History) (catalog : Catalogued) (spare : ℕ) → HasRooms rs h catalog spare → r.room ≡ Some ready.room → ready.added ≡ r.added → ((g : KeptTransaction → ℕ) → total g rs ≡ g r + total g rs') →
+    (name : List ℕ) → has_spare_rows h.spares name (rows_for name ready.added.items) ≡ true
 room_ready rs rs' r ready h catalog spare rooms is added weights name =
     let there : is_some r.room ≡ true = ap (λ (o : Option Room). is_some o) is in
     let mine : table_rows_for name r ≡ rows_for name ready.added.items = ap (λ (b : Bool). if b then rows_for name r.added.items else 0) there ∙ (λ i. rows_for name (sym added i).items) in
     fewer_rows h.spares name (rows_for name ready.added.items) (total (table_rows_for name) rs) (omega (arith, weights (table_rows_for name), mine)) (rooms.table_rows name)
 
-pub entry_used : (rs rs' : List Open) (r : Open) (spare spare' : ℕ) → is_some r.room ≡ true → total entries_for rs ≡ entries_for r + total entries_for rs' → total entries_for rs ≤ spare → spare ≤ spare' + 1 → total entries_for rs' ≤ spare'
+pub entry_used : (rs rs' : List KeptTransaction) (r : KeptTransaction) (spare spare' : ℕ) → is_some r.room ≡ true → total entries_for rs ≡ entries_for r + total entries_for rs' → total entries_for rs ≤ spare → spare ≤ spare' + 1 → total entries_for rs' ≤ spare'
 entry_used rs rs' r spare spare' there weights enough entry =
     let one : entries_for r ≡ 1 = ap (λ (b : Bool). if b then 1 else 0) there in
     omega (arith, one, weights, enough, entry)

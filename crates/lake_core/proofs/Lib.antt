@@ -1,8 +1,8 @@
 pub mod OpenLemmas
-pub mod HomeLemmas
+pub mod ConsistencyLemmas
 pub mod CommitLemmas
 pub mod RoomLemmas
 pub mod ReserveLemmas
 pub mod SnapshotLemmas
 pub mod ViewLemmas
-pub mod FurtherLemmas
+pub mod PartChangeLemmas

@@ -2,20 +2,21 @@
 use Rattle.std.proofs.Common.{◌≡◌, ℕ, zero, suc, ◌+◌, ◌<◌, ◌≤◌, Bool, true, false, ◌||◌, Option, None, Some, List, [], ◌∷◌, length, get_or, take, refl, sym, ap, ◌∙◌, subst, arith, nat_eq, if◌then◌else◌}
 use Rattle.std.specs.Prelude.{IsSome, OnOk, Result, Ok, Err, position, vec_len}
 use Rattle.std.specs.List.{list_any}
-use Rattle.lake_model.specs.declared.entries.Added.{Added}
+use Rattle.sql_model.specs.declared.changes.Added.{Added}
 use Rattle.lake_model.specs.declared.entries.Entry.{Entry}
 use Rattle.lake_model.specs.State.{State, Transaction, state, transaction}
-use Rattle.lake_model.specs.Versions.{Tables, same_text}
-use Rattle.lake_model.proofs.Texts.{same_text_is}
-use Rattle.table_history.specs.Histories.{KeepsRoom, History, has_room, rows_for}
+use Rattle.sql_model.specs.Versions.{Tables}
+use Rattle.lake_values.specs.Texts.{same_text}
+use Rattle.lake_values.proofs.SameTexts.{same_text_is}
+use Rattle.table_history.specs.Histories.{KeepsRoom, History, has_spare_rows, rows_for}
 use Rattle.write_set_catalog.specs.Catalogs.{Catalogued}
 use Rattle.write_set_catalog.specs.declared.rows.CatRow.{CatRow}
-use Rattle.lake_core.specs.Homes.{HasRooms, IsHistory, IsHome, chronicle_of}
+use Rattle.lake_core.specs.Consistency.{HasRooms, IsHistory, IsConsistent, chronicle_of}
 use Rattle.lake_core.specs.Rooms.{AreOpen, HaveOwnSessions, IsRoomFor, IsWritten, catalog_rows_for, rows_needed, table_rows_for, total, with_room}
-use Rattle.lake_core.specs.declared.transactions.Open.{Open}
+use Rattle.lake_core.specs.declared.transactions.KeptTransaction.{KeptTransaction}
 use Rattle.lake_core.specs.declared.transactions.Room.{Room}
-use Rattle.lake_core.proofs.HomeLemmas.{few_rooms, fewer_rows}
-use Rattle.lake_core.proofs.OpenLemmas.{IsAt, found_nowhere, length_kept, open_none, ready_kept, total_kept}
+use Rattle.lake_core.proofs.ConsistencyLemmas.{few_rooms, fewer_rows}
+use Rattle.lake_core.proofs.OpenLemmas.{IsAt, found_nowhere, length_kept, open_none, fits_kept, total_kept}
 
 last_passes : {X : Type 0} (p : X → Bool) (xs : List X) (i : ℕ) (x : X) → x ≡ get_or xs i x → i < length xs → list_any p (take (suc i) xs) ≡ true → list_any p (take i xs) ≡ false → p x ≡ true
 last_passes p [] i x is within some none = absurd (omega arith)
@@ -43,7 +44,7 @@ none_for name (a ∷ as_) none = elim (same_text a.table name) as (λ b. (b || l
 
 -- a table has the room that is needed
 abbrev HasRoomFor : (List ℕ → ℕ) → History → List ℕ → Type 0
-HasRoomFor need h name = has_room h.spares name (need name) ≡ true
+HasRoomFor need h name = has_spare_rows h.spares name (need name) ≡ true
 
 -- one of the parts names the table
 abbrev names : List ℕ → List Added → Bool
@@ -106,18 +107,18 @@ repeated parts i j before part part' is lower within at also here same =
 pub room_named : (need : List ℕ → ℕ) (named : List Added) (h : History) (i : ℕ) → length named ≤ i → ((name : List ℕ) → names name (take i named) ≡ true → HasRoomFor need h name) → (name : List ℕ) → names name named ≡ true → HasRoomFor need h name
 room_named need named h i past made name some = made name (ap (names name) (whole named i past) ∙ some)
 
-pub room_all : (running : List Open) (added more : List Added) (h h' h'' : History) → KeepsRoom h h' → KeepsRoom h' h'' → ((name : List ℕ) → names name added ≡ true → HasRoomFor (rows_needed running added more) h' name) →
-    ((name : List ℕ) → names name more ≡ true → HasRoomFor (rows_needed running added more) h'' name) → ((name : List ℕ) → has_room h.spares name (total (table_rows_for name) running) ≡ true) → (name : List ℕ) → HasRoomFor (rows_needed running added more) h'' name
+pub room_all : (running : List KeptTransaction) (added more : List Added) (h h' h'' : History) → KeepsRoom h h' → KeepsRoom h' h'' → ((name : List ℕ) → names name added ≡ true → HasRoomFor (rows_needed running added more) h' name) →
+    ((name : List ℕ) → names name more ≡ true → HasRoomFor (rows_needed running added more) h'' name) → ((name : List ℕ) → has_spare_rows h.spares name (total (table_rows_for name) running) ≡ true) → (name : List ℕ) → HasRoomFor (rows_needed running added more) h'' name
 room_all running added more h h' h'' keeps keeps' first second rooms name =
     let need = rows_needed running added more name in
-    elim (names name added) as (λ b. names name added ≡ b → has_room h''.spares name need ≡ true) [
+    elim (names name added) as (λ b. names name added ≡ b → has_spare_rows h''.spares name need ≡ true) [
       | true ↦ λ e. keeps' name need (first name e)
-      | false ↦ λ e. elim (names name more) as (λ b. names name more ≡ b → has_room h''.spares name need ≡ true) [
+      | false ↦ λ e. elim (names name more) as (λ b. names name more ≡ b → has_spare_rows h''.spares name need ≡ true) [
         | true ↦ λ f. second name f
         | false ↦ λ f.
             let m = total (table_rows_for name) running in
             let same : need ≡ m = omega (arith, none_for name added e, none_for name more f) in
-            ap (λ (n : ℕ). has_room h''.spares name n) same ∙ keeps' name m (keeps name m (rooms name))
+            ap (λ (n : ℕ). has_spare_rows h''.spares name n) same ∙ keeps' name m (keeps name m (rooms name))
       ] refl
     ] refl
 
@@ -133,14 +134,14 @@ history_kept st h h' first tables kept =
     let P : ℕ × List Tables → Type 0 = λ p. IsHistory st (record { first = p.0; tables = p.1; spares = h'.spares }) in
     subst P (λ i. (sym first i, sym tables i)) (record { some = kept.some; counted = kept.counted; tables = kept.tables; snapshots = kept.snapshots })
 
-pub reserved_home : (es es' : List Entry) (h h' : History) (rs rs' : List Open) (catalog catalog' : Catalogued) (spare spare' number : ℕ) → IsHome (chronicle_of es) h rs catalog spare number → es' ≡ es → h'.first ≡ h.first → h'.tables ≡ h.tables → catalog'.rows ≡ catalog.rows →
-    AreOpen (state (chronicle_of es)).running rs' → HaveOwnSessions rs' → HasRooms rs' h' catalog' spare' → IsHome (chronicle_of es') h' rs' catalog' spare' number
-reserved_home es es' h h' rs rs' catalog catalog' spare spare' number home same first tables rows open_ own rooms =
-    let stands = home.stands in
-    let P : List Entry → Type 0 = λ ns. IsHome (chronicle_of ns) h' rs' catalog' spare' number in
+pub reserved_consistent : (es es' : List Entry) (h h' : History) (rs rs' : List KeptTransaction) (catalog catalog' : Catalogued) (spare spare' number : ℕ) → IsConsistent (chronicle_of es) h rs catalog spare number → es' ≡ es → h'.first ≡ h.first → h'.tables ≡ h.tables → catalog'.rows ≡ catalog.rows →
+    AreOpen (state (chronicle_of es)).running rs' → HaveOwnSessions rs' → HasRooms rs' h' catalog' spare' → IsConsistent (chronicle_of es') h' rs' catalog' spare' number
+reserved_consistent es es' h h' rs rs' catalog catalog' spare spare' number consistent same first tables rows open_ own rooms =
+    let stands = consistent.stands in
+    let P : List Entry → Type 0 = λ ns. IsConsistent (chronicle_of ns) h' rs' catalog' spare' number in
     let W : List CatRow → Type 0 = λ ws. IsWritten (state (chronicle_of es)) ws in
     subst P (sym same) (record {
-      legal = home.legal;
+      legal = consistent.legal;
       stands = record {
         history = history_kept (state (chronicle_of es)) h h' first tables stands.history;
         open_ones = open_;
@@ -154,26 +155,26 @@ reserved_home es es' h h' rs rs' catalog catalog' spare spare' number home same 
     })
 
 -- no room was made, but there may be more
-pub more_rooms : (rs : List Open) (h h' : History) (catalog catalog' : Catalogued) (spare spare' : ℕ) → HasRooms rs h catalog spare → spare ≤ spare' → KeepsRoom h h' → total catalog_rows_for rs ≤ catalog'.spare → HasRooms rs h' catalog' spare'
+pub more_rooms : (rs : List KeptTransaction) (h h' : History) (catalog catalog' : Catalogued) (spare spare' : ℕ) → HasRooms rs h catalog spare → spare ≤ spare' → KeepsRoom h h' → total catalog_rows_for rs ≤ catalog'.spare → HasRooms rs h' catalog' spare'
 more_rooms rs h h' catalog catalog' spare spare' rooms more keeps rows = record {
-  ready = rooms.ready;
+  fit = rooms.fit;
   entries = omega (arith, rooms.entries, more);
   catalog_rows = rows;
   table_rows = λ name. keeps name (total (table_rows_for name) rs) (rooms.table_rows name);
 }
 
 -- room was made for one of the transactions
-pub made_rooms : (rs : List Open) (place : ℕ) (r : Open) (room : Room) (h h' : History) (catalog catalog' : Catalogued) (spare spare' : ℕ) → HasRooms rs h catalog spare → r ≡ get_or rs place r → IsRoomFor r.removed.items room → length rs ≤ spare' →
-    total catalog_rows_for rs + vec_len room.rows ≤ catalog'.spare → ((name : List ℕ) → has_room h'.spares name (total (table_rows_for name) rs + rows_for name r.added.items) ≡ true) → HasRooms (with_room room rs place) h' catalog' spare'
+pub made_rooms : (rs : List KeptTransaction) (place : ℕ) (r : KeptTransaction) (room : Room) (h h' : History) (catalog catalog' : Catalogued) (spare spare' : ℕ) → HasRooms rs h catalog spare → r ≡ get_or rs place r → IsRoomFor r.removed.items room → length rs ≤ spare' →
+    total catalog_rows_for rs + vec_len room.rows ≤ catalog'.spare → ((name : List ℕ) → has_spare_rows h'.spares name (total (table_rows_for name) rs + rows_for name r.added.items) ≡ true) → HasRooms (with_room room rs place) h' catalog' spare'
 made_rooms rs place r room h h' catalog catalog' spare spare' rooms is made entries rows tables = record {
-  ready = ready_kept room rs place r is made rooms.ready;
+  fit = fits_kept room rs place r is made rooms.fit;
   entries = omega (arith, few_rooms (with_room room rs place), length_kept room rs place, entries);
   catalog_rows = omega (arith, total_kept catalog_rows_for room rs place r is, rows);
   table_rows = λ name. fewer_rows h'.spares name (total (table_rows_for name) (with_room room rs place)) (total (table_rows_for name) rs + rows_for name r.added.items) (total_kept (table_rows_for name) room rs place r is) (tables name);
 }
 
 -- a session with a transaction is found
-pub open_found : (session : ℕ) (st : State) (rs ys : List Open) (found : Option ℕ) → ys ≡ rs → found ≡ position (λ r. nat_eq r.session session) ys → AreOpen st.running rs → IsSome (transaction st session) → IsSome found
+pub open_found : (session : ℕ) (st : State) (rs ys : List KeptTransaction) (found : Option ℕ) → ys ≡ rs → found ≡ position (λ r. nat_eq r.session session) ys → AreOpen st.running rs → IsSome (transaction st session) → IsSome found
 open_found session st rs ys None same is open_ some =
     let none = open_none session st.running rs open_ (found_nowhere session rs ys None same is refl) in
     let P : Option Transaction → Type 0 = λ o. IsSome o in
@@ -181,7 +182,7 @@ open_found session st rs ys None same is open_ some =
     absurd cc
 open_found session st rs ys (Some place) same is open_ some = refl
 
-pub at_some : (session : ℕ) (rs : List Open) (place : ℕ) → IsAt session rs place → (r : Open) × (r ≡ get_or rs place r)
+pub at_some : (session : ℕ) (rs : List KeptTransaction) (place : ℕ) → IsAt session rs place → (r : KeptTransaction) × (r ≡ get_or rs place r)
 at_some session [] place at = absurd at
 at_some session (r ∷ rs) zero at = (r, refl)
 at_some session (r ∷ rs) (suc place) at = at_some session rs place at.1

@@ -3,13 +3,14 @@ use Rattle.std.proofs.Common.{◌≡◌, ℕ, zero, suc, ◌<◌, Bool, true, fa
 use Rattle.std.specs.Prelude.{slice_get, slice_index_or}
 use Rattle.std.specs.List.{AllByRecursion, list_any, slice_set}
 use Rattle.std.proofs.Math.Bool.{or_assoc, or-false}
-use Rattle.lake_model.specs.declared.entries.Mark.{Mark}
-use Rattle.lake_model.specs.declared.entries.MarkedRow.{MarkedRow}
-use Rattle.lake_model.specs.Versions.{ConflictUnit, whole_table, same_unit, same_text, share_unit}
-use Rattle.lake_model.proofs.Texts.{same_text_self}
+use Rattle.sql_model.specs.declared.changes.Mark.{Mark}
+use Rattle.sql_model.specs.declared.changes.MarkedRow.{MarkedRow}
+use Rattle.sql_model.specs.Units.{ConflictUnit, whole_table, same_unit, share_unit, units_of_marks}
+use Rattle.lake_values.specs.Texts.{same_text}
+use Rattle.lake_values.proofs.SameTexts.{same_text_self}
 use Rattle.table_history.specs.Histories.{NamesTables}
 use Rattle.write_set_catalog.specs.declared.rows.CatRow.{CatRow}
-use Rattle.write_set_catalog.specs.Rows.{units_of_marks, units_of_row}
+use Rattle.write_set_catalog.specs.Rows.{units_of_row}
 use Rattle.lake_core.specs.Rooms.{rows_share, units_of_rows}
 
 -- the table is one of the units

@@ -7,18 +7,18 @@ use Rattle.lake_model.specs.declared.entries.Fact.{Fact}
 use Rattle.lake_model.specs.declared.entries.Fact.TheVariants.{Created, Began, Ran, Committed, Conflict, Ended, RolledBack, Refused, Failed, Compacted, Checkpointed, Collected}
 use Rattle.lake_model.specs.Allowed.{IsAllowedFact, IsLegal, IsLegalFrom}
 use Rattle.lake_model.specs.State.{State, Noted, Transaction, after, after_fact, after_stop, ended, opened_by, opening, state, state_from, transaction, turned, version_at, view, with_version}
-use Rattle.lake_model.specs.declared.entries.Change.{Change}
-use Rattle.lake_model.specs.Changes.{applied}
-use Rattle.lake_model.specs.Scopes.{TableSchemas}
-use Rattle.lake_model.specs.Versions.{Tables, Version}
-use Rattle.lake_model.specs.Writing.{schemas_of}
-use Rattle.lake_model.proofs.Lists.{all_filter, all_weaker}
+use Rattle.sql_model.specs.declared.changes.Change.{Change}
+use Rattle.sql_model.specs.Changes.{applied}
+use Rattle.sql_model.specs.Scopes.{TableSchemas}
+use Rattle.sql_model.specs.Versions.{Tables, Version}
+use Rattle.sql_model.specs.Writing.{schemas_of}
+use Rattle.sql_model.proofs.Lists.{all_filter, all_weaker}
 use Rattle.table_history.specs.Histories.{History, IsIn, change_from, tables_in}
 use Rattle.write_set_catalog.specs.Catalogs.{Catalogued}
-use Rattle.lake_core.specs.declared.transactions.Open.{Open}
-use Rattle.lake_core.specs.Homes.{IsHome}
+use Rattle.lake_core.specs.declared.transactions.KeptTransaction.{KeptTransaction}
+use Rattle.lake_core.specs.Consistency.{IsConsistent}
 use Rattle.lake_core.specs.Rooms.{OpenAt}
-use Rattle.lake_core.proofs.HomeLemmas.{snapshot_of}
+use Rattle.lake_core.proofs.ConsistencyLemmas.{snapshot_of}
 use Rattle.lake_core.proofs.CommitLemmas.{applied_same}
 
 -- there is a version, and no snapshot lies behind the last
@@ -89,13 +89,13 @@ snapshot_there session es t legal opened =
     opened_sees (length (state es).versions) session (state es).running t sees.snapshots opened
 
 -- the version that the session's transaction sees is kept
-pub seen_version : (session : ℕ) (es : List Noted) (h : History) (rs : List Open) (catalog : Catalogued) (spare number : ℕ) (r : Open) (there : OpenAt session (state es).running r) → IsHome es h rs catalog spare number →
+pub seen_version : (session : ℕ) (es : List Noted) (h : History) (rs : List KeptTransaction) (catalog : Catalogued) (spare number : ℕ) (r : KeptTransaction) (there : OpenAt session (state es).running r) → IsConsistent es h rs catalog spare number →
     IsIn h r.snapshot × (tables_in h r.snapshot ≡ (version_at (state es) there.transaction.snapshot).tables)
-seen_version session es h rs catalog spare number r there home =
-    let kept = home.stands.history in
+seen_version session es h rs catalog spare number r there consistent =
+    let kept = consistent.stands.history in
     let t = there.transaction in
     let low : h.first ≤ t.snapshot = snapshot_of h.first session (state es).running t kept.snapshots there.opened in
-    let high : t.snapshot + 1 ≤ length (state es).versions = snapshot_there session es t home.legal there.opened in
+    let high : t.snapshot + 1 ≤ length (state es).versions = snapshot_there session es t consistent.legal there.opened in
     let is : r.snapshot ≡ t.snapshot = there.is.snapshot in
     (record { from = omega (arith, low, is); to = omega (arith, high, is, kept.counted) }, ap (tables_in h) is ∙ kept.tables t.snapshot low (omega (arith, high)))
 
@@ -104,13 +104,13 @@ schemas_applied seq change [] = refl
 schemas_applied seq change (t ∷ ts) = ap (λ (ss : TableSchemas). (t.name, t.schema) ∷ ss) (schemas_applied seq change ts)
 
 -- what is kept of a transaction tells what it sees
-pub tables_seen : (session : ℕ) (es : List Noted) (h : History) (rs : List Open) (catalog : Catalogued) (spare number : ℕ) (r : Open) → OpenAt session (state es).running r → IsHome es h rs catalog spare number →
+pub tables_seen : (session : ℕ) (es : List Noted) (h : History) (rs : List KeptTransaction) (catalog : Catalogued) (spare number : ℕ) (r : KeptTransaction) → OpenAt session (state es).running r → IsConsistent es h rs catalog spare number →
     applied 0 (change_from r.removed.items r.added.items) (tables_in h r.snapshot) ≡ view (state es) session
-tables_seen session es h rs catalog spare number r there home =
+tables_seen session es h rs catalog spare number r there consistent =
     let st = state es in
     let t = there.transaction in
     let opened : transaction st session ≡ Some t = there.opened in
-    let version = (seen_version session es h rs catalog spare number r there home).1 in
+    let version = (seen_version session es h rs catalog spare number r there consistent).1 in
     ap (λ (ts : Tables). applied 0 (change_from r.removed.items r.added.items) ts) version
     ∙ applied_same 0 r.removed.items r.added.items t.pending (version_at st t.snapshot).tables there.is.removed there.is.added
     ∙ sym (ap (λ (o : Option Transaction). option_map_or (λ u. applied 0 u.pending (version_at st u.snapshot).tables) o []) opened)

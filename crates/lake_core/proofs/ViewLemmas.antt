@@ -2,11 +2,12 @@
 use Rattle.std.proofs.Common.{◌≡◌, ℕ, true, false, List, [], ◌∷◌, ◌++◌, None, Some, filter, flat_map, refl, sym, if◌then◌else◌}
 use Rattle.std.specs.Option.{option_map, option_map_or}
 use Rattle.lake_values.specs.Schemas.{TableColumns}
-use Rattle.lake_model.specs.declared.entries.Change.{Change}
-use Rattle.lake_model.specs.declared.entries.MarkedRow.{MarkedRow}
-use Rattle.lake_model.specs.Changes.{added_to, applied, changed_table, marked_cmp, without}
-use Rattle.lake_model.specs.Versions.{Table, Tables, marked_rows_of, same_text, table_of}
-use Rattle.lake_model.proofs.Texts.{same_text_is}
+use Rattle.sql_model.specs.declared.changes.Change.{Change}
+use Rattle.sql_model.specs.declared.changes.MarkedRow.{MarkedRow}
+use Rattle.sql_model.specs.Changes.{added_to, applied, changed_table, marked_cmp, without}
+use Rattle.sql_model.specs.Versions.{Table, Tables, marked_rows_of, table_of}
+use Rattle.lake_values.specs.Texts.{same_text}
+use Rattle.lake_values.proofs.SameTexts.{same_text_is}
 use Rattle.lake_core.specs.Rooms.{empty_table}
 
 -- the rows of a table of this name and schema after a change

@@ -4,13 +4,14 @@ use Rattle.std.specs.Option.{option_map_or}
 use Rattle.lake_values.specs.Schemas.{TableColumns}
 use Rattle.lake_model.specs.declared.entries.Fact.{Fact}
 use Rattle.lake_model.specs.declared.entries.Fact.TheVariants as fact
-use Rattle.lake_model.specs.declared.replies.Refusal.TheVariants.{InTransaction, TableExists}
-use Rattle.lake_model.specs.declared.replies.Reply.{Reply}
-use Rattle.lake_model.specs.declared.replies.Reply.TheVariants as reply
-use Rattle.lake_model.specs.Changes.{is_unchanged, units_of}
+use Rattle.sql_model.specs.declared.replies.Refusal.TheVariants.{InTransaction, TableExists}
+use Rattle.sql_model.specs.declared.replies.Reply.{Reply}
+use Rattle.sql_model.specs.declared.replies.Reply.TheVariants as reply
+use Rattle.sql_model.specs.Changes.{is_unchanged}
+use Rattle.sql_model.specs.Units.{units_of}
 use Rattle.lake_model.specs.Conflicts.{first_conflict}
 use Rattle.lake_model.specs.State.{State, Transaction, is_inside, last, newest, transaction}
-use Rattle.lake_model.specs.Versions.{has_table}
+use Rattle.sql_model.specs.Versions.{has_table}
 
 -- a table is created outside a transaction, where no table has the name
 abbrev pub creation : State → ℕ → List ℕ → TableColumns → Fact

@@ -2,4 +2,4 @@ pub mod Lakes
 pub mod Facts
 pub mod Opened
 pub mod Rooms
-pub mod Homes
+pub mod Consistency

@@ -1,6 +1,6 @@
 -- What a lake says of an open transaction.
 use Rattle.std.specs.Prelude.{not}
-use Rattle.lake_model.specs.Changes.{is_unchanged}
+use Rattle.sql_model.specs.Changes.{is_unchanged}
 use Rattle.lake_model.specs.State.{Transaction}
 use Rattle.lake_core.specs.declared.opened.OpenTxn.{OpenTxn}
 

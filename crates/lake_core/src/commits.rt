@@ -1,14 +1,14 @@
 ghost use Rattle.std.specs.Prelude.{◌≡◌, ◌+◌, ◌<◌, ◌≤◌, ◌^◌, ◌++◌, ◌&&◌, ℕ, List, Some, true, is_some, map, length, vec_len};
-ghost use Rattle.lake_core.specs.Homes.{IsHistory};
+ghost use Rattle.lake_core.specs.Consistency.{IsHistory};
 ghost use Rattle.lake_core.specs.Rooms.{AreOpen, IsRoomFor, stamped};
 ghost use Rattle.lake_model.specs.State.{State};
-ghost use Rattle.lake_model.specs.Changes as changes;
-ghost use Rattle.table_history.specs.Histories.{GrowsBy, KeepsRoom, change_from, has_room, last_of, newest_of, rows_for};
+ghost use Rattle.sql_model.specs.Changes as changes;
+ghost use Rattle.table_history.specs.Histories.{GrowsBy, KeepsRoom, change_from, has_spare_rows, last_of, newest_of, rows_for};
 ghost use Rattle.table_history.specs.Strikes.{IsAscending};
 ghost use Rattle.write_set_catalog.specs.Catalogs.{IsBehind};
 
-use crate::transactions::{Open, Room};
-use lake_model::{Added, MarkedRow, Marks};
+use crate::transactions::{KeptTransaction, Room};
+use sql_model::{Added, MarkedRow, Marks};
 use table_history::History;
 use write_set_catalog::{CatRow, Catalog};
 
@@ -23,14 +23,14 @@ pub struct Ready {
 }
 
 impl Ready {
-    pub fn of(transaction: Open) -> Ready
+    pub fn of(transaction: KeptTransaction) -> Ready
         requires { is_some transaction.room ≡ true }
         ensures snapshot { result.snapshot ≡ transaction.snapshot }
         ensures removed { result.removed ≡ transaction.removed }
         ensures added { result.added ≡ transaction.added }
         ensures room { transaction.room ≡ Some result.room }
     {
-        let Open {
+        let KeptTransaction {
             snapshot,
             removed,
             added,
@@ -67,11 +67,11 @@ pub fn apply(history: &mut History, catalog: &mut Catalog, ready: Ready) -> Appl
     requires ascending { IsAscending ready.removed.items }
     requires small { last_of history.old + 1 < 2 ^ 62 }
     requires behind { IsBehind catalog.old.rows (last_of history.old + 1) }
-    requires tables { (name : List ℕ) → has_room history.old.spares name (rows_for name ready.added.items) ≡ true }
+    requires tables { (name : List ℕ) → has_spare_rows history.old.spares name (rows_for name ready.added.items) ≡ true }
     requires spare { vec_len ready.room.rows ≤ catalog.old.spare }
     ensures seq { result.seq ≡ last_of history.old + 1 }
     ensures made { GrowsBy history.old history.new (changes.applied (last_of history.old + 1) (change_from ready.removed.items ready.added.items) (newest_of history.old)) }
-    ensures tables { (name : List ℕ) (rows : ℕ) → has_room history.old.spares name (rows_for name ready.added.items + rows) ≡ true → has_room history.new.spares name rows ≡ true }
+    ensures tables { (name : List ℕ) (rows : ℕ) → has_spare_rows history.old.spares name (rows_for name ready.added.items + rows) ≡ true → has_spare_rows history.new.spares name rows ≡ true }
     ensures rows { catalog.new.rows ≡ catalog.old.rows ++ map (stamped (last_of history.old + 1)) ready.room.rows.items }
     ensures spare { catalog.old.spare ≤ catalog.new.spare + vec_len ready.room.rows }
 {
@@ -94,7 +94,7 @@ pub fn apply(history: &mut History, catalog: &mut Catalog, ready: Ready) -> Appl
 
 /// Lets earlier versions go where no transaction is open that could see them, with their rows in the tables that the marks
 /// name.
-pub fn forget_unseen(history: &mut History, running: &[Open], marks: &Marks)
+pub fn forget_unseen(history: &mut History, running: &[KeptTransaction], marks: &Marks)
     ensures versions { (st : State) → AreOpen st.running running.now → IsHistory st history.old → IsHistory st history.new }
     ensures rooms { KeepsRoom history.old history.new }
 {

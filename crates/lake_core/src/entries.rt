@@ -1,14 +1,15 @@
 ghost use Rattle.std.specs.Prelude.{◌≡◌, [], IfOk};
 ghost use Rattle.lake_core.specs.Facts as facts;
-ghost use Rattle.lake_core.specs.Rooms.{IsFurther};
+ghost use Rattle.lake_core.specs.Rooms.{IsPartChange};
 ghost use Rattle.lake_model.specs.State.{parts_of};
 ghost use Rattle.lake_model.specs.declared.entries.Fact.TheVariants as fact;
 
-use crate::further::Further;
-use crate::transactions::Open;
+use crate::part_changes::PartChange;
+use crate::transactions::KeptTransaction;
 use crate::who::Who;
-use lake_model::{Change, Entry, Fact, Reply};
+use lake_model::{Entry, Fact};
 use lake_values::{Listed, NoMemory, Schema, Text};
+use sql_model::{Change, Reply};
 use std::alloc::Global;
 
 /// The entry of what was done for a session.
@@ -76,7 +77,7 @@ impl Creation {
 #[derive(Debug, Drop)]
 pub struct Ran {
     pub did: Entry,
-    pub more: Further,
+    pub more: PartChange,
     pub reply: Reply,
 }
 
@@ -86,17 +87,17 @@ impl Ran {
         who: Who,
         reply: Reply,
         change: Change,
-        before: &Open,
+        before: &KeptTransaction,
     ) -> Result<Ran, NoMemory>
         ensures entry { IfOk result (λ ran. ran.did ≡ record { session = who.session; place = who.place; fact = fact.Ran reply change }) }
-        ensures further { IfOk result (λ ran. IsFurther before.now change ran.more) }
+        ensures change { IfOk result (λ ran. IsPartChange before.now change ran.more) }
         ensures reply { IfOk result (λ ran. ran.reply ≡ reply) }
     {
         let did = Fact::Ran {
             reply: reply.copy(alloc)?,
             change: change.copy(alloc)?,
         };
-        let more = Further::of(alloc, change, before)?;
+        let more = PartChange::of(alloc, change, before)?;
         Ok(Ran {
             did: entry(who, did),
             more,

@@ -1,26 +1,28 @@
 ghost use Rattle.std.specs.Prelude.{◌≡◌, ◌≢◌, ◌+◌, ◌<◌, ◌≤◌, ◌^◌, ℕ, [], ◌∷◌, true, false, Ok, None, Some, IsNone, IsSome, IfOk, IfSome, OnOk, OnErr, length, map};
 ghost use Rattle.std.specs.Option.{option_map};
 ghost use Rattle.lake_model.specs.Allowed.{IsAllowedRefusal, IsLegal};
-ghost use Rattle.lake_model.specs.State.{is_inside, last, newest, next_part, transaction, view};
-ghost use Rattle.lake_model.specs.Versions.{has_table};
-ghost use Rattle.lake_model.specs.Writing.{effect_of};
+ghost use Rattle.lake_model.specs.State.{is_inside, last, newest, transaction, view};
+ghost use Rattle.sql_model.specs.Versions.{has_table};
 ghost use Rattle.lake_model.specs.declared.entries.Fact.TheVariants as fact;
 ghost use Rattle.lake_core.specs.Facts as facts;
-ghost use Rattle.lake_core.specs.Lakes.{Adds, HasPart, IsExplicit, has_room, new_lake, state_of};
+ghost use Rattle.lake_core.specs.Lakes.{Adds, HasPart, IsExplicit, IsStatementEffect, is_reserved, new_lake, state_of};
 ghost use Rattle.lake_core.specs.Opened.{opened};
 
 use crate::chronicles::Chronicle;
 use crate::commits::{Applied, Ready, apply, forget_unseen};
 use crate::entries::{Creation, Ran, committed, entry, parts_of};
-use crate::further::Further;
 use crate::opened::OpenTxn;
+use crate::part_changes::PartChange;
 use crate::reservations::{room_again, room_beside, room_for};
-use crate::transactions::{Open, end, place_of, put_first, put_room, stop, take, take_reserved};
+use crate::transactions::{
+    KeptTransaction, end, place_of, put_first, put_room, stop, take, take_reserved,
+};
 use crate::views::Lent;
 use crate::who::Who;
-use lake_model::{Bound, Change, Fact, Refusal, Reply};
+use lake_model::Fact;
 use lake_outside::Port;
 use lake_values::{NoMemory, Schema, Text};
+use sql_model::{Change, Refusal, Reply};
 use std::alloc::Global;
 use std::marker::{Model, PhantomData};
 use table_history::History;
@@ -36,7 +38,7 @@ pub struct LakeState<P: Port> {
     chronicle: Chronicle,
     history: History,
     catalog: Catalog,
-    running: Vec<Open>,
+    running: Vec<KeptTransaction>,
     /// The number of the last transaction.
     last_number: u64,
     ports: PhantomData<P>,
@@ -48,11 +50,11 @@ impl<P: Port> Model for LakeState<P> {
     ghost Value = { Lake };
 
     ghost use Rattle.lake_core.specs.Rooms.{rooms_of};
-    ghost use Rattle.lake_core.specs.Homes.{IsHome, chronicle_of};
+    ghost use Rattle.lake_core.specs.Consistency.{IsConsistent, chronicle_of};
 
     ghost view = { λ l. record { entries = chronicle_of l.chronicle.entries; rooms = rooms_of l.running.items } };
 
-    ghost invariant = { λ l. IsHome (chronicle_of l.chronicle.entries) l.history l.running.items l.catalog l.chronicle.spare l.last_number };
+    ghost invariant = { λ l. IsConsistent (chronicle_of l.chronicle.entries) l.history l.running.items l.catalog l.chronicle.spare l.last_number };
 }
 
 impl<P: Port> LakeState<P> {
@@ -184,26 +186,26 @@ impl<P: Port> LakeState<P> {
                 snapshot,
             },
         ));
-        let transaction = Open::begun(alloc, who.session, explicit, txn, snapshot);
+        let transaction = KeptTransaction::begun(alloc, who.session, explicit, txn, snapshot);
         put_first(&mut self.running, transaction);
         self.last_number = txn;
         Ok(Reply::Begun { snapshot })
     }
 
-    /// Records what a statement of the session's transaction answered and changed, which is what the bound statement does
-    /// over what the transaction sees, as its next part. It answers the reply.
+    /// Records what a statement that reads or changes rows answered and changed in the session's
+    /// transaction, which is what it does over what the transaction sees, as its next part. It
+    /// answers the reply.
     pub fn ran(
         &mut self,
         alloc: Global,
         who: Who,
-        bound: &Bound,
         reply: Reply,
         change: Change,
     ) -> Result<Reply, NoMemory>
         requires few { length self.old.entries < 2 ^ 61 }
         requires running { IsSome (transaction (state_of self.old) who.session) }
         requires part { HasPart (state_of self.old) who.session }
-        requires effect { effect_of bound.now (view (state_of self.old) who.session) (next_part (state_of self.old) who.session) ≡ Ok (reply, change) }
+        requires effect { IsStatementEffect (state_of self.old) who.session (reply, change) }
         ensures entry { OnOk result (Adds self.old self.new who (fact.Ran reply change)) }
         ensures reply { IfOk result (λ answer. answer ≡ reply) }
         ensures err { OnErr result (self.new ≡ self.old) }
@@ -235,12 +237,12 @@ impl<P: Port> LakeState<P> {
     pub fn reserve(&mut self, alloc: Global, session: u32) -> Result<(), NoMemory>
         requires running { IsSome (transaction (state_of self.old) session) }
         ensures entries { self.new.entries ≡ self.old.entries }
-        ensures room { OnOk result (has_room self.new session ≡ true) }
-        ensures others { (other : ℕ) → other ≢ session → has_room self.new other ≡ has_room self.old other }
+        ensures room { OnOk result (is_reserved self.new session ≡ true) }
+        ensures others { (other : ℕ) → other ≢ session → is_reserved self.new other ≡ is_reserved self.old other }
         ensures err { OnErr result (self.new ≡ self.old) }
     {
         let place = place_of(self.running.as_slice(), session).unwrap();
-        let more = Further::nothing(alloc);
+        let more = PartChange::nothing(alloc);
         let room = room_for(
             alloc,
             &mut self.chronicle,
@@ -260,7 +262,7 @@ impl<P: Port> LakeState<P> {
     /// removed rows; else the answer is that conflict. It takes no memory.
     pub fn commit(&mut self, alloc: Global, who: Who) -> Reply
         requires few { length self.old.entries < 2 ^ 61 }
-        requires reserved { has_room self.old who.session ≡ true }
+        requires reserved { is_reserved self.old who.session ≡ true }
         ensures entry { Adds self.old self.new who (facts.commitment (state_of self.old) who.session) }
         ensures reply { result ≡ facts.answer (facts.commitment (state_of self.old) who.session) }
     {
@@ -287,7 +289,7 @@ impl<P: Port> LakeState<P> {
     /// It takes no memory.
     pub fn roll_back(&mut self, who: Who) -> Reply
         requires few { length self.old.entries < 2 ^ 61 }
-        requires reserved { has_room self.old who.session ≡ true }
+        requires reserved { is_reserved self.old who.session ≡ true }
         requires inside { is_inside (state_of self.old) who.session ≡ true }
         ensures entry { Adds self.old self.new who fact.RolledBack }
         ensures reply { result ≡ facts.answer fact.RolledBack }

@@ -3,7 +3,7 @@ ghost use Rattle.lake_model.specs.State.{Transaction};
 ghost use Rattle.lake_core.specs.Opened.{opened};
 ghost use Rattle.lake_core.specs.Rooms.{IsOpen};
 
-use crate::transactions::Open;
+use crate::transactions::KeptTransaction;
 
 /// A session's open transaction.
 #[derive(Clone, Copy, Debug)]
@@ -21,7 +21,7 @@ pub struct OpenTxn {
 }
 
 impl OpenTxn {
-    pub fn of(transaction: &Open) -> OpenTxn
+    pub fn of(transaction: &KeptTransaction) -> OpenTxn
         ensures { (o : ℕ × Transaction) → IsOpen o transaction.now → result ≡ opened o.1 }
     {
         OpenTxn {

@@ -1,16 +1,16 @@
 ghost use Rattle.std.specs.Prelude.{◌≡◌, ◌+◌, ◌<◌, ◌≤◌, ◌++◌, ℕ, List, true, IfOk, IfSome, OnOk, get_or, is_some, length, take, vec_len};
-ghost use Rattle.lake_model.specs.declared.entries.Added.{Added as Part};
+ghost use Rattle.sql_model.specs.declared.changes.Added.{Added as Part};
 ghost use Rattle.std.specs.List.{list_any};
 ghost use Rattle.std.specs.Option.{option_map_or};
 ghost use Rattle.lake_core.specs.Rooms.{IsRoomFor, catalog_rows_for, rows_needed, table_rows_for, total};
-ghost use Rattle.lake_model.specs.Versions.{same_text};
-ghost use Rattle.table_history.specs.Histories.{KeepsRoom, has_room};
+ghost use Rattle.lake_values.specs.Texts.{same_text};
+ghost use Rattle.table_history.specs.Histories.{KeepsRoom, has_spare_rows};
 
 use crate::chronicles::Chronicle;
-use crate::further::Further;
-use crate::transactions::{Open, Room, rows_added};
-use lake_model::Added;
+use crate::part_changes::PartChange;
+use crate::transactions::{KeptTransaction, Room, rows_added};
 use lake_values::{NoMemory, Text};
+use sql_model::Added;
 use std::alloc::Global;
 use table_history::History;
 use write_set_catalog::Catalog;
@@ -21,9 +21,9 @@ pub fn room_for(
     chronicle: &mut Chronicle,
     history: &mut History,
     catalog: &mut Catalog,
-    running: &[Open],
+    running: &[KeptTransaction],
     place: usize,
-    more: &Further,
+    more: &PartChange,
 ) -> Result<Room, NoMemory>
     requires within { place < length running.now }
     ensures entries { chronicle.new.entries ≡ chronicle.old.entries }
@@ -32,12 +32,12 @@ pub fn room_for(
     ensures first { history.new.first ≡ history.old.first }
     ensures tables { history.new.tables ≡ history.old.tables }
     ensures history_keeps { KeepsRoom history.old history.new }
-    ensures tables_room { ((name : List ℕ) → has_room history.old.spares name (total (table_rows_for name) running.now) ≡ true) → (open_ : Open) → open_ ≡ get_or running.now place open_ →
-        IfOk result (λ room. (name : List ℕ) → has_room history.new.spares name (rows_needed running.now open_.added.items more.now.added.items name) ≡ true) }
+    ensures tables_room { ((name : List ℕ) → has_spare_rows history.old.spares name (total (table_rows_for name) running.now) ≡ true) → (open_ : KeptTransaction) → open_ ≡ get_or running.now place open_ →
+        IfOk result (λ room. (name : List ℕ) → has_spare_rows history.new.spares name (rows_needed running.now open_.added.items more.now.added.items name) ≡ true) }
     ensures rows { catalog.new.rows ≡ catalog.old.rows }
     ensures catalog_keeps { total catalog_rows_for running.now ≤ catalog.old.spare → total catalog_rows_for running.now ≤ catalog.new.spare }
     ensures rows_room { IfOk result (λ room. total catalog_rows_for running.now + vec_len room.rows ≤ catalog.new.spare) }
-    ensures made { (open_ : Open) → open_ ≡ get_or running.now place open_ → IfOk result (IsRoomFor (open_.removed.items ++ more.now.removed.items)) }
+    ensures made { (open_ : KeptTransaction) → open_ ≡ get_or running.now place open_ → IfOk result (IsRoomFor (open_.removed.items ++ more.now.removed.items)) }
 {
     let transaction = &running[place];
     let room = Room::of(
@@ -63,9 +63,9 @@ pub fn room_again(
     chronicle: &mut Chronicle,
     history: &mut History,
     catalog: &mut Catalog,
-    running: &[Open],
+    running: &[KeptTransaction],
     place: usize,
-    more: &Further,
+    more: &PartChange,
 ) -> Result<Option<Room>, NoMemory>
     requires within { place < length running.now }
     ensures entries { chronicle.new.entries ≡ chronicle.old.entries }
@@ -74,13 +74,13 @@ pub fn room_again(
     ensures first { history.new.first ≡ history.old.first }
     ensures tables { history.new.tables ≡ history.old.tables }
     ensures history_keeps { KeepsRoom history.old history.new }
-    ensures tables_room { ((name : List ℕ) → has_room history.old.spares name (total (table_rows_for name) running.now) ≡ true) → (open_ : Open) → open_ ≡ get_or running.now place open_ →
-        IfOk result (λ room. is_some open_.room ≡ true → (name : List ℕ) → has_room history.new.spares name (rows_needed running.now open_.added.items more.now.added.items name) ≡ true) }
+    ensures tables_room { ((name : List ℕ) → has_spare_rows history.old.spares name (total (table_rows_for name) running.now) ≡ true) → (open_ : KeptTransaction) → open_ ≡ get_or running.now place open_ →
+        IfOk result (λ room. is_some open_.room ≡ true → (name : List ℕ) → has_spare_rows history.new.spares name (rows_needed running.now open_.added.items more.now.added.items name) ≡ true) }
     ensures rows { catalog.new.rows ≡ catalog.old.rows }
     ensures catalog_keeps { total catalog_rows_for running.now ≤ catalog.old.spare → total catalog_rows_for running.now ≤ catalog.new.spare }
     ensures rows_room { total catalog_rows_for running.now ≤ catalog.old.spare → IfOk result (λ room. total catalog_rows_for running.now + option_map_or (λ made. vec_len made.rows) room 0 ≤ catalog.new.spare) }
-    ensures made { (open_ : Open) → open_ ≡ get_or running.now place open_ → IfOk result (λ room. IfSome room (IsRoomFor (open_.removed.items ++ more.now.removed.items))) }
-    ensures kept { (open_ : Open) → open_ ≡ get_or running.now place open_ → IfOk result (λ room. is_some room ≡ is_some open_.room) }
+    ensures made { (open_ : KeptTransaction) → open_ ≡ get_or running.now place open_ → IfOk result (λ room. IfSome room (IsRoomFor (open_.removed.items ++ more.now.removed.items))) }
+    ensures kept { (open_ : KeptTransaction) → open_ ≡ get_or running.now place open_ → IfOk result (λ room. is_some room ≡ is_some open_.room) }
 {
     let room = match running[place].room {
         Some(_) => Some(room_for(alloc, chronicle, history, catalog, running, place, more)?),
@@ -91,7 +91,11 @@ pub fn room_again(
 }
 
 /// Makes room for rows of the catalogue beside those that are reserved.
-fn reserve_rows(catalog: &mut Catalog, running: &[Open], more: usize) -> Result<(), NoMemory>
+fn reserve_rows(
+    catalog: &mut Catalog,
+    running: &[KeptTransaction],
+    more: usize,
+) -> Result<(), NoMemory>
     ensures rows { catalog.new.rows ≡ catalog.old.rows }
     ensures keeps { total catalog_rows_for running.now ≤ catalog.old.spare → total catalog_rows_for running.now ≤ catalog.new.spare }
     ensures room { OnOk result (total catalog_rows_for running.now + more ≤ catalog.new.spare) }
@@ -101,7 +105,7 @@ fn reserve_rows(catalog: &mut Catalog, running: &[Open], more: usize) -> Result<
 }
 
 /// For how many rows of the catalogue room is reserved.
-fn catalog_rows_reserved(running: &[Open]) -> Result<usize, NoMemory>
+fn catalog_rows_reserved(running: &[KeptTransaction]) -> Result<usize, NoMemory>
     ensures { IfOk result (λ rows. rows ≡ total catalog_rows_for running.now) }
 {
     let mut rows: usize = 0;
@@ -114,15 +118,15 @@ fn catalog_rows_reserved(running: &[Open]) -> Result<usize, NoMemory>
 /// Makes room for the rows of these parts and of those in their tables, beside what is reserved.
 fn reserve_tables(
     history: &mut History,
-    running: &[Open],
+    running: &[KeptTransaction],
     added: &[Added],
     more: &[Added],
 ) -> Result<(), NoMemory>
     ensures first { history.new.first ≡ history.old.first }
     ensures tables { history.new.tables ≡ history.old.tables }
     ensures keeps { KeepsRoom history.old history.new }
-    ensures room { ((name : List ℕ) → has_room history.old.spares name (total (table_rows_for name) running.now) ≡ true) →
-        OnOk result ((name : List ℕ) → has_room history.new.spares name (rows_needed running.now added.now more.now name) ≡ true) }
+    ensures room { ((name : List ℕ) → has_spare_rows history.old.spares name (total (table_rows_for name) running.now) ≡ true) →
+        OnOk result ((name : List ℕ) → has_spare_rows history.new.spares name (rows_needed running.now added.now more.now name) ≡ true) }
 {
     reserve_named(history, running, added, more, added)?;
     reserve_named(history, running, added, more, more)
@@ -131,7 +135,7 @@ fn reserve_tables(
 /// Makes the room that parts need in the tables that some of them name.
 fn reserve_named(
     history: &mut History,
-    running: &[Open],
+    running: &[KeptTransaction],
     added: &[Added],
     more: &[Added],
     named: &[Added],
@@ -139,7 +143,7 @@ fn reserve_named(
     ensures first { history.new.first ≡ history.old.first }
     ensures tables { history.new.tables ≡ history.old.tables }
     ensures keeps { KeepsRoom history.old history.new }
-    ensures room { OnOk result ((name : List ℕ) → list_any (λ a. same_text a.table name) named.now ≡ true → has_room history.new.spares name (rows_needed running.now added.now more.now name) ≡ true) }
+    ensures room { OnOk result ((name : List ℕ) → list_any (λ a. same_text a.table name) named.now ≡ true → has_spare_rows history.new.spares name (rows_needed running.now added.now more.now name) ≡ true) }
 {
     for place in 0..named.len() {
         reserve_part(history, running, added, more, named, place)?;
@@ -151,7 +155,7 @@ fn reserve_named(
 /// table.
 fn reserve_part(
     history: &mut History,
-    running: &[Open],
+    running: &[KeptTransaction],
     added: &[Added],
     more: &[Added],
     named: &[Added],
@@ -161,8 +165,8 @@ fn reserve_part(
     ensures first { history.new.first ≡ history.old.first }
     ensures tables { history.new.tables ≡ history.old.tables }
     ensures keeps { KeepsRoom history.old history.new }
-    ensures room { ((name : List ℕ) → list_any (λ a. same_text a.table name) (take place named.now) ≡ true → has_room history.old.spares name (rows_needed running.now added.now more.now name) ≡ true) →
-        OnOk result ((name : List ℕ) → list_any (λ a. same_text a.table name) (take (place + 1) named.now) ≡ true → has_room history.new.spares name (rows_needed running.now added.now more.now name) ≡ true) }
+    ensures room { ((name : List ℕ) → list_any (λ a. same_text a.table name) (take place named.now) ≡ true → has_spare_rows history.old.spares name (rows_needed running.now added.now more.now name) ≡ true) →
+        OnOk result ((name : List ℕ) → list_any (λ a. same_text a.table name) (take (place + 1) named.now) ≡ true → has_spare_rows history.new.spares name (rows_needed running.now added.now more.now name) ≡ true) }
 {
     if repeats(named, place) {
         return Ok(());
@@ -184,7 +188,7 @@ fn repeats(parts: &[Added], place: usize) -> bool
 /// Makes the room that parts need in a table.
 fn reserve_table(
     history: &mut History,
-    running: &[Open],
+    running: &[KeptTransaction],
     added: &[Added],
     more: &[Added],
     table: &Text,
@@ -192,7 +196,7 @@ fn reserve_table(
     ensures first { history.new.first ≡ history.old.first }
     ensures tables { history.new.tables ≡ history.old.tables }
     ensures keeps { KeepsRoom history.old history.new }
-    ensures room { OnOk result (has_room history.new.spares table.now (rows_needed running.now added.now more.now table.now) ≡ true) }
+    ensures room { OnOk result (has_spare_rows history.new.spares table.now (rows_needed running.now added.now more.now table.now) ≡ true) }
 {
     let reserved = rows_reserved(running, table)?;
     let rows = sum(reserved, rows_added(added, table)?)?;
@@ -210,7 +214,7 @@ fn sum(a: usize, b: usize) -> Result<usize, NoMemory>
 /// for them.
 pub fn room_beside(
     chronicle: &mut Chronicle,
-    running: &[Open],
+    running: &[KeptTransaction],
     table: &Text,
 ) -> Result<usize, NoMemory>
     ensures same { chronicle.new.entries ≡ chronicle.old.entries }
@@ -224,7 +228,7 @@ pub fn room_beside(
 }
 
 /// For how many rows of a table room is reserved for all sessions together.
-fn rows_reserved(running: &[Open], table: &Text) -> Result<usize, NoMemory>
+fn rows_reserved(running: &[KeptTransaction], table: &Text) -> Result<usize, NoMemory>
     ensures { IfOk result (λ rows. rows ≡ total (table_rows_for table.now) running.now) }
 {
     let mut rows: usize = 0;

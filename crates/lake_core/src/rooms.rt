@@ -1,13 +1,14 @@
 //! What is made for the commit of a transaction when room is reserved for it.
 
 ghost use Rattle.std.specs.Prelude.{◌≡◌, ◌==◌, ◌&&◌, ◌||◌, ◌∷◌, ◌++◌, [], List, IfOk, OnOk};
-ghost use Rattle.lake_model.specs.Versions.{ConflictUnit, same_text, share_unit, whole_table};
-ghost use Rattle.write_set_catalog.specs.Rows.{units_of_marks, units_of_row};
+ghost use Rattle.sql_model.specs.Units.{ConflictUnit, share_unit, whole_table, units_of_marks};
+ghost use Rattle.lake_values.specs.Texts.{same_text};
+ghost use Rattle.write_set_catalog.specs.Rows.{units_of_row};
 ghost use Rattle.lake_core.specs.Rooms.{IsRoomFor, rows_share, units_of_rows};
 
 use crate::transactions::Room;
-use lake_model::{Mark, MarkedRow, Marks};
 use lake_values::{Listed, NoMemory};
+use sql_model::{Mark, MarkedRow, Marks};
 use std::alloc::Global;
 use write_set_catalog::CatRow;
 

@@ -1,7 +1,7 @@
 ghost use Rattle.std.specs.Prelude.{◌≡◌, ◌==◌, ◌+◌, ◌^◌, ◌&&◌, ◌<◌, ◌≤◌, ◌++◌, ◌∷◌, [], None, get_or, vec_capacity, List, ℕ, position, true, false, is_some, OnOk, OnErr, IfOk, IfSome, vec_len, length};
-ghost use Rattle.lake_model.specs.Changes as changes;
-ghost use Rattle.lake_model.specs.Listing.{SameBag};
-ghost use Rattle.lake_core.specs.Rooms.{AreOpen, HaveOwnSessions, IsOpen, IsPended, IsReady, LeavesRooms, OpenAt, catalog_rows_for, entries_for, in_rooms, table_rows_for, total, with_room};
+ghost use Rattle.sql_model.specs.Changes as changes;
+ghost use Rattle.sql_model.specs.Listing.{SameBag};
+ghost use Rattle.lake_core.specs.Rooms.{AreOpen, HaveOwnSessions, IsOpen, IsPended, RoomFits, LeavesRooms, OpenAt, catalog_rows_for, entries_for, in_rooms, table_rows_for, total, with_room};
 ghost use Rattle.table_history.specs.Histories.{rows_for};
 ghost use Rattle.lake_core.specs.Lakes.{HasPart};
 ghost use Rattle.lake_model.specs.State as states;
@@ -9,8 +9,8 @@ ghost use Rattle.lake_model.specs.State.{State, Transaction};
 ghost use Rattle.std.specs.List.{AllByRecursion, remove};
 ghost use Rattle.table_history.specs.Strikes.{IsAscending};
 
-use lake_model::{Added, Change, MarkedRow, Marks};
 use lake_values::{NoMemory, Row, Rows, Text};
+use sql_model::{Added, Change, MarkedRow, Marks};
 use std::alloc::Global;
 use write_set_catalog::CatRow;
 
@@ -27,7 +27,7 @@ pub struct Room {
 
 /// A session's open transaction.
 #[derive(Debug, Drop)]
-pub struct Open {
+pub struct KeptTransaction {
     pub session: u32,
     pub explicit: bool,
     pub number: u64,
@@ -42,14 +42,14 @@ pub struct Open {
 }
 
 /// Which of the transactions is the session's.
-pub fn place_of(running: &[Open], session: u32) -> Option<usize>
+pub fn place_of(running: &[KeptTransaction], session: u32) -> Option<usize>
     ensures { result ≡ position (λ o. o.session == session) running.now }
 {
     running.iter().position(|open| open.session == session)
 }
 
 /// Takes a transaction out.
-pub fn take(running: &mut Vec<Open>, place: usize) -> Open
+pub fn take(running: &mut Vec<KeptTransaction>, place: usize) -> KeptTransaction
     requires { place < vec_len running.old }
     ensures taken { result ≡ get_or running.old.items place result }
     ensures others { running.new.items ≡ remove running.old.items place }
@@ -60,20 +60,26 @@ pub fn take(running: &mut Vec<Open>, place: usize) -> Open
 }
 
 /// Puts a transaction before the others, in room that was made for it.
-pub fn put_first(running: &mut Vec<Open>, transaction: Open)
+pub fn put_first(running: &mut Vec<KeptTransaction>, transaction: KeptTransaction)
     requires { vec_len running.old < vec_capacity running.old }
     ensures { running.new.items ≡ transaction ∷ running.old.items }
 {
     running.insert(0, transaction).unwrap();
 }
 
-impl Open {
+impl KeptTransaction {
     /// The transaction of a session that begins.
-    pub fn begun(alloc: Global, session: u32, explicit: bool, number: u64, snapshot: u64) -> Open
+    pub fn begun(
+        alloc: Global,
+        session: u32,
+        explicit: bool,
+        number: u64,
+        snapshot: u64,
+    ) -> KeptTransaction
         ensures begun { IsOpen (session, record { explicit = explicit; number = number; snapshot = snapshot; pending = changes.no_change; worn = []; parts = 0 }) result }
         ensures room { result.room ≡ None }
     {
-        Open {
+        KeptTransaction {
             session,
             explicit,
             number,
@@ -114,22 +120,22 @@ impl Open {
 }
 
 /// Takes out the session's transaction, for which room is reserved.
-pub fn take_reserved(running: &mut Vec<Open>, session: u32) -> Open
+pub fn take_reserved(running: &mut Vec<KeptTransaction>, session: u32) -> KeptTransaction
     requires own { HaveOwnSessions running.old.items }
     requires reserved { in_rooms session running.old.items ≡ true }
     ensures taken { (st : State) → AreOpen st.running running.old.items → OpenAt session st.running result }
     ensures ended { (st : State) → AreOpen st.running running.old.items → AreOpen (states.ended session st).running running.new.items }
     ensures rooms { LeavesRooms session running.old.items running.new.items }
     ensures reserved { is_some result.room ≡ true }
-    ensures ready { AllByRecursion IsReady running.old.items → IsReady result }
-    ensures weights { (g : Open → ℕ) → total g running.old.items ≡ g result + total g running.new.items }
+    ensures fits { AllByRecursion RoomFits running.old.items → RoomFits result }
+    ensures weights { (g : KeptTransaction → ℕ) → total g running.old.items ≡ g result + total g running.new.items }
 {
     let place = place_of(running.as_slice(), session).unwrap();
     take(running, place)
 }
 
 /// Ends the session's transaction.
-pub fn end(running: &mut Vec<Open>, session: u32)
+pub fn end(running: &mut Vec<KeptTransaction>, session: u32)
     requires { HaveOwnSessions running.old.items }
     ensures ended { (st : State) → AreOpen st.running running.old.items → AreOpen (states.ended session st).running running.new.items }
     ensures rooms { LeavesRooms session running.old.items running.new.items }
@@ -142,7 +148,7 @@ pub fn end(running: &mut Vec<Open>, session: u32)
 
 /// A statement of the session's transaction was refused: the transaction has one part more, or ends where it was opened
 /// for the statement alone.
-pub fn stop(running: &mut Vec<Open>, session: u32)
+pub fn stop(running: &mut Vec<KeptTransaction>, session: u32)
     requires own { HaveOwnSessions running.old.items }
     requires part { (st : State) × AreOpen st.running running.old.items × HasPart st session }
     ensures stopped { (st : State) → AreOpen st.running running.old.items → AreOpen (states.after_stop session false st).running running.new.items }
@@ -157,13 +163,13 @@ pub fn stop(running: &mut Vec<Open>, session: u32)
     }
 }
 
-impl Open {
+impl KeptTransaction {
     /// The transaction with one part more.
-    fn with_part(self) -> Open
+    fn with_part(self) -> KeptTransaction
         requires { self.parts + 1 < 2 ^ 32 }
         ensures { result ≡ record self { parts = self.parts + 1 } }
     {
-        Open {
+        KeptTransaction {
             parts: self.parts + 1,
             ..self
         }
@@ -171,7 +177,7 @@ impl Open {
 }
 
 /// Keeps the room that was made for one of the transactions.
-pub fn put_room(running: &mut Vec<Open>, place: usize, room: Room)
+pub fn put_room(running: &mut Vec<KeptTransaction>, place: usize, room: Room)
     requires { place < vec_len running.old }
     ensures { running.new.items ≡ with_room room running.old.items place }
 {

@@ -1,16 +1,16 @@
 ghost use Rattle.std.specs.Prelude.{◌≡◌, ◌++◌, [], ℕ, List, map, IfOk, OnOk};
 ghost use Rattle.std.specs.List.{flat_map};
-ghost use Rattle.lake_model.specs.Changes.{added_to, applied};
-ghost use Rattle.lake_model.specs.Versions.{marked_rows_of};
-ghost use Rattle.lake_model.specs.Writing.{schemas_of};
+ghost use Rattle.sql_model.specs.Changes.{added_to, applied};
+ghost use Rattle.sql_model.specs.Versions.{marked_rows_of};
+ghost use Rattle.sql_model.specs.Writing.{schemas_of};
 ghost use Rattle.table_history.specs.Histories.{IsIn, change_from, tables_in};
 ghost use Rattle.table_history.specs.Strikes.{IsAscending};
 ghost use Rattle.lake_core.specs.Rooms.{empty_table};
 ghost use Rattle.table_history.specs.Stores.{marked_of};
 
-use crate::transactions::Open;
-use lake_model::{Added, Schemas};
+use crate::transactions::KeptTransaction;
 use lake_values::{NoMemory, Schema, Text};
+use sql_model::{Added, Schemas};
 use std::alloc::Global;
 use std::marker::Model;
 use table_history::{History, ViewRow, cell_in};
@@ -21,13 +21,13 @@ use table_history::{History, ViewRow, cell_in};
 #[derive(Debug, Drop)]
 pub struct Lent<'a> {
     history: &'a History,
-    transaction: &'a Open,
+    transaction: &'a KeptTransaction,
 }
 
 impl<'a> Model for Lent<'a> {
     ghost use Rattle.std.specs.Prelude.{◌≡◌};
-    ghost use Rattle.lake_model.specs.Changes.{applied};
-    ghost use Rattle.lake_model.specs.Versions.{Tables};
+    ghost use Rattle.sql_model.specs.Changes.{applied};
+    ghost use Rattle.sql_model.specs.Versions.{Tables};
     ghost use Rattle.table_history.specs.Histories.{IsIn, change_from, tables_in};
     ghost use Rattle.table_history.specs.Strikes.{IsAscending};
 
@@ -39,7 +39,7 @@ impl<'a> Model for Lent<'a> {
 }
 
 impl<'a> Lent<'a> {
-    pub fn of(history: &'a History, transaction: &'a Open) -> Lent<'a>
+    pub fn of(history: &'a History, transaction: &'a KeptTransaction) -> Lent<'a>
         requires kept { IsIn history.now transaction.now.snapshot }
         requires ascending { IsAscending transaction.now.removed.items }
         ensures { result ≡ applied 0 (change_from transaction.now.removed.items transaction.now.added.items) (tables_in history.now transaction.now.snapshot) }

@@ -7,15 +7,18 @@ use Rattle.std.specs.List.{AllByRecursion}
 use Rattle.lake_values.specs.declared.names.Name.{Name}
 use Rattle.lake_model.specs.declared.entries.Fact.{Fact}
 use Rattle.lake_model.specs.declared.entries.Fact.TheVariants.{Committed, Compacted}
-use Rattle.lake_model.specs.declared.entries.Mark.{Mark}
+use Rattle.sql_model.specs.declared.changes.Mark.{Mark}
 use Rattle.lake_model.specs.Allowed.{IsAllowedFact, IsLegalFrom, MayCommit, MayCompact}
-use Rattle.lake_model.specs.Changes.{version_after}
+use Rattle.sql_model.specs.Changes.{version_after}
 use Rattle.lake_model.specs.Compactions.{version_compacted}
-use Rattle.lake_model.specs.Conflicts.{numbers, commits_after, wrote_one, first_conflict}
-use Rattle.lake_model.specs.Laws.{commit_of, SawEarlier, CommitsFirst, FirstCommitterWins}
+use Rattle.sql_model.specs.Listing.{numbers}
+use Rattle.lake_model.specs.Conflicts.{commits_after, wrote_one, first_conflict}
+use Rattle.lake_model.specs.Laws.{IsSound, commit_of, SawEarlier, CommitsFirst, FirstCommitterWins}
 use Rattle.lake_model.specs.State.{State, Noted, Transaction, opening, with_version, ended, last, newest, version_at, transaction, after_fact, after, state_from, stated}
-use Rattle.lake_model.specs.Versions.{Version, share_unit}
-use Rattle.lake_model.proofs.Growth.{IsGrown, IsSound, version_kept, version_made, state_grown, sound_after, sound_opening}
+use Rattle.sql_model.specs.Versions.{Version}
+use Rattle.sql_model.specs.Units.{share_unit}
+use Rattle.lake_model.proofs.Growth.{IsGrown, version_kept, version_made, state_grown}
+use Rattle.lake_model.proofs.Sound.{sound_after, sound_opening}
 
 -- what is not found passes nowhere
 none_found : {X : Type 0} (p : X → Bool) (xs : List X) → find p xs ≡ None → AllByRecursion (λ x. p x ≡ false) xs

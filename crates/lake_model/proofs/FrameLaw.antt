@@ -3,15 +3,16 @@ use Rattle.std.proofs.Common.{◌≡◌, ◌≢◌, ℕ, ◌+◌, Bool, true, fa
 use Rattle.std.proofs.lemmas.Bool.{eqb-true}
 use Rattle.std.specs.Option.{option_map_or}
 use Rattle.lake_values.specs.declared.names.Name.{Name}
-use Rattle.lake_model.specs.declared.entries.Change.{Change}
+use Rattle.sql_model.specs.declared.changes.Change.{Change}
 use Rattle.lake_model.specs.declared.entries.Fact.{Fact}
 use Rattle.lake_model.specs.declared.entries.Fact.TheVariants.{Created, Began, Ran, Committed, Conflict, Ended, RolledBack, Refused, Failed, Compacted, Checkpointed, Collected}
-use Rattle.lake_model.specs.declared.replies.Reply.{Reply}
-use Rattle.lake_model.specs.Changes.{applied, version_after}
-use Rattle.lake_model.specs.Laws.{ViewsStay}
+use Rattle.sql_model.specs.declared.replies.Reply.{Reply}
+use Rattle.sql_model.specs.Changes.{applied, version_after}
+use Rattle.lake_model.specs.Laws.{IsSound, ViewsStay}
 use Rattle.lake_model.specs.State.{State, Noted, Transaction, last, newest, version_at, opened_by, transaction, with_version, with_part, turned, ended, after_fact, after, state}
-use Rattle.lake_model.specs.Versions.{Tables, Version}
-use Rattle.lake_model.proofs.Growth.{after_grown, version_kept, IsSound, snapshot_below, sound_legal}
+use Rattle.sql_model.specs.Versions.{Tables, Version}
+use Rattle.lake_model.proofs.Growth.{after_grown, version_kept}
+use Rattle.lake_model.proofs.Sound.{snapshot_below, states_are_sound}
 
 module _ (other session : ℕ) (differ : other ≢ session) where
   no_match : nat_eq other session ≡ false
@@ -82,5 +83,5 @@ views_stay entries e session legal differ =
     let same : transaction (after st e) session ≡ transaction st session = fact_frame e.entry.session session differ e.ends e.entry.fact st in
     record {
       transaction = same;
-      view = ap (seen_at (after st e)) same ∙ seen_kept st e session (sound_legal entries legal) (transaction st session) refl;
+      view = ap (seen_at (after st e)) same ∙ seen_kept st e session (states_are_sound entries legal) (transaction st session) refl;
     }

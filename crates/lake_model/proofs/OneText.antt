@@ -5,17 +5,18 @@ use Rattle.std.specs.Option.{option_map_or}
 use Rattle.std.proofs.lemmas.List.Elements.{filter-append}
 use Rattle.std.proofs.lemmas.List.{append-nil}
 use Rattle.lake_model.specs.declared.entries.Fact.{Fact}
-use Rattle.lake_model.specs.declared.replies.Reply.{Reply}
-use Rattle.lake_model.specs.declared.scripts.Numbered.{Numbered}
-use Rattle.lake_model.specs.declared.scripts.Step.{Step}
-use Rattle.lake_model.specs.declared.scripts.Step.TheVariants.{One, Parallel}
+use Rattle.sql_model.specs.declared.replies.Reply.{Reply}
+use Rattle.sql_model.specs.declared.scripts.Numbered.{Numbered}
+use Rattle.sql_model.specs.declared.scripts.Step.{Step}
+use Rattle.sql_model.specs.declared.scripts.Step.TheVariants.{One, Parallel}
 use Rattle.lake_model.specs.Allowed.{IsLegalFrom}
-use Rattle.lake_model.specs.Following.{IsOneOf, IsRun, IsInOrder, MayFollow, ShareBlock, places, statements, run_at}
+use Rattle.sql_model.specs.Listing.{IsOneOf}
+use Rattle.lake_model.specs.Following.{IsRun, IsInOrder, MayFollow, ShareBlock, places, statements, run_at}
 use Rattle.lake_model.specs.Laws.{is_one, HaveAscendingPlaces, IsSerial, IsSuccess, OneText}
 use Rattle.lake_model.specs.Replies.{text_of_reply}
 use Rattle.lake_model.specs.State.{State, Noted, opening, after, state_from, stated}
 use Rattle.lake_model.specs.Text.{reply_from, run_text, text}
-use Rattle.lake_model.proofs.Lists.{all_weaker, all_both, all_parts}
+use Rattle.sql_model.proofs.Lists.{all_weaker, all_both, all_parts}
 use Rattle.lake_model.proofs.RightAnswers.{bare_state}
 use Rattle.lake_model.proofs.RightRuns.{right_run, run_right, bare_facts, IsSure, all_next, state_right, reply_right}
 use Rattle.lake_model.proofs.Steps.{stated_append, run_at_others, run_at_own}

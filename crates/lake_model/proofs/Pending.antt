@@ -6,18 +6,19 @@ use Rattle.std.specs.Ordering.{is_eq}
 use Rattle.std.specs.declared.cmp.Ordering.{Ordering}
 use Rattle.std.proofs.lemmas.Bool.{eqb-true}
 use Rattle.lake_values.specs.declared.values.Value.{Value}
-use Rattle.lake_model.specs.declared.entries.Added.{Added}
-use Rattle.lake_model.specs.declared.entries.Change.{Change}
-use Rattle.lake_model.specs.declared.entries.MarkedRow.{MarkedRow}
-use Rattle.lake_model.specs.Allowed.{IsPartOf}
-use Rattle.lake_model.specs.Changes.{no_change, is_own, committed, pend, without_one, without, marked_cmp, marked, added_to, removed_from, changed_table, applied}
-use Rattle.lake_model.specs.Conflicts.{numbers, wrote_one, first_conflict}
-use Rattle.lake_model.specs.Listing.{weight}
+use Rattle.sql_model.specs.declared.changes.Added.{Added}
+use Rattle.sql_model.specs.declared.changes.Change.{Change}
+use Rattle.sql_model.specs.declared.changes.MarkedRow.{MarkedRow}
+use Rattle.sql_model.specs.Listing.{IsPartOf, numbers, weight}
+use Rattle.sql_model.specs.Changes.{no_change, is_own, committed, pend, without_one, without, marked_cmp, marked, added_to, removed_from, changed_table, applied}
+use Rattle.lake_model.specs.Conflicts.{wrote_one, first_conflict}
 use Rattle.lake_model.specs.State.{State, last}
-use Rattle.lake_model.specs.Versions.{Table, Tables, ConflictUnit, same_text, all_rows}
-use Rattle.lake_model.proofs.Bags.{weight_append}
-use Rattle.lake_model.proofs.Lists.{all_append, all_parts}
-use Rattle.lake_model.proofs.Removal.{filter_all}
+use Rattle.sql_model.specs.Versions.{Table, Tables, all_rows}
+use Rattle.sql_model.specs.Units.{ConflictUnit}
+use Rattle.lake_values.specs.Texts.{same_text}
+use Rattle.sql_model.proofs.Bags.{weight_append}
+use Rattle.sql_model.proofs.Lists.{all_append, all_parts}
+use Rattle.sql_model.proofs.Removal.{filter_all}
 
 -- what a transaction changes with its first statement
 

@@ -5,24 +5,26 @@ use Rattle.std.specs.Option.{option_map_or}
 use Rattle.lake_values.specs.declared.names.Kind.TheVariants.{File}
 use Rattle.lake_values.specs.declared.names.Name.{Name}
 use Rattle.lake_values.specs.Schemas.{TableColumns}
-use Rattle.lake_model.specs.declared.entries.Change.{Change}
+use Rattle.sql_model.specs.declared.changes.Change.{Change}
 use Rattle.lake_model.specs.declared.entries.Fact.{Fact}
 use Rattle.lake_model.specs.declared.entries.Fact.TheVariants.{Created, Began, Ran, Committed, Conflict, Ended, RolledBack, Refused, Failed, Compacted, Checkpointed, Collected}
-use Rattle.lake_model.specs.declared.entries.Mark.{Mark}
-use Rattle.lake_model.specs.declared.replies.Refusal.{Refusal}
-use Rattle.lake_model.specs.declared.replies.Refusal.TheVariants.{NoTransaction}
-use Rattle.lake_model.specs.declared.replies.Reply.{Reply}
-use Rattle.lake_model.specs.declared.statements.Statement.{Statement}
-use Rattle.lake_model.specs.declared.statements.Statement.TheVariants.{Create, Begin, Commit, RollBack, Insert, Select, Update, Delete, Compact, Checkpoint, Collect}
-use Rattle.lake_model.specs.Changes.{is_unchanged, units_of, version_after}
+use Rattle.sql_model.specs.declared.changes.Mark.{Mark}
+use Rattle.sql_model.specs.declared.replies.Refusal.{Refusal}
+use Rattle.sql_model.specs.declared.replies.Refusal.TheVariants.{NoTransaction}
+use Rattle.sql_model.specs.declared.replies.Reply.{Reply}
+use Rattle.sql_model.specs.declared.statements.Statement.{Statement}
+use Rattle.sql_model.specs.declared.statements.Statement.TheVariants.{Create, Begin, Commit, RollBack, Insert, Select, Update, Delete, Compact, Checkpoint, Collect}
+use Rattle.sql_model.specs.Changes.{is_unchanged, version_after}
+use Rattle.sql_model.specs.Units.{ConflictUnit, units_of, units_of_compaction}
 use Rattle.lake_model.specs.Compactions.{due, marks_in}
 use Rattle.lake_model.specs.Conflicts.{first_conflict}
-use Rattle.lake_model.specs.Versions.{whole_table}
-use Rattle.lake_model.specs.Writing.{Effect}
+use Rattle.sql_model.specs.Writing.{Effect}
 use Rattle.lake_model.specs.State.{State, Transaction, last, newest, version_at, transaction, with_version, with_part, turned, ended, after_fact}
 use Rattle.lake_model.specs.Refusals.{refusal, result_of}
 use Rattle.lake_model.specs.Allowed.{IsAllowedFact, MayCommit, MayConflict, MayCompact, MayCheckpoint}
-use Rattle.lake_model.specs.Answers.{IsRight, IsCreateOf, IsConflictOf, IsEndOf, IsCollectionOf, schema_of, commits, reads_rows, runs_alone, floor_after}
+use Rattle.lake_model.specs.Answers.{IsRight, IsCreateOf, IsConflictOf, IsEndOf, IsCollectionOf, commits, floor_after, compaction_units}
+use Rattle.sql_model.specs.Creating.{schema_of}
+use Rattle.sql_model.specs.StatementKinds.{reads_rows, runs_alone}
 use Rattle.lake_model.specs.Following.{is_failed}
 use Rattle.lake_model.specs.Text.{reply_after}
 
@@ -109,7 +111,8 @@ compacted_by (Some n) done = Conflict n
 abbrev pub compaction_of : State → List ℕ → Transaction → List ℕ → Fact
 compaction_of st table t [] = Ended
 compaction_of st table t (c ∷ cs) =
-    compacted_by (first_conflict st t.snapshot (whole_table table ∷ [])) (Compacted table (c ∷ cs) (marks_in table (c ∷ cs) (version_at st t.snapshot).tables) (last st + 1) [] [])
+    let marks = marks_in table (c ∷ cs) (version_at st t.snapshot).tables in
+    compacted_by (first_conflict st t.snapshot (units_of_compaction table marks)) (Compacted table (c ∷ cs) marks (last st + 1) [] [])
 
 abbrev pub compaction_at : State → List ℕ → Option Transaction → Fact
 compaction_at st table o = option_map_or (λ t. compaction_of st table t (due table (version_at st t.snapshot))) o Ended
@@ -171,21 +174,24 @@ abbrev due_at : State → List ℕ → Option Transaction → List ℕ
 due_at st table o = option_map_or (λ t. due table (version_at st t.snapshot)) o []
 
 abbrev conflict_at : State → List ℕ → Option Transaction → Option ℕ
-conflict_at st table o = option_map_or (λ t. first_conflict st t.snapshot (whole_table table ∷ [])) o None
+conflict_at st table o = option_map_or (λ t. first_conflict st t.snapshot (compaction_units st table t.snapshot)) o None
 
 compaction_ended : (st : State) (table : List ℕ) (o : Option Transaction) → due_at st table o ≡ [] → Ended ≡ compaction_at st table o
 compaction_ended st table None none = refl
 compaction_ended st table (Some t) none = rw none refl
 
-some_due : (st : State) (table : List ℕ) (t : Transaction) (seq : ℕ) (cells : List ℕ) → cells ≢ [] → first_conflict st t.snapshot (whole_table table ∷ []) ≡ Some seq → Conflict seq ≡ compaction_of st table t cells
+abbrev units_in : State → List ℕ → Transaction → List ℕ → List ConflictUnit
+units_in st table t cells = units_of_compaction table (marks_in table cells (version_at st t.snapshot).tables)
+
+some_due : (st : State) (table : List ℕ) (t : Transaction) (seq : ℕ) (cells : List ℕ) → cells ≢ [] → first_conflict st t.snapshot (units_in st table t cells) ≡ Some seq → Conflict seq ≡ compaction_of st table t cells
 some_due st table t seq [] some first = absurd (some refl)
 some_due st table t seq (c ∷ cs) some first = rw first refl
 
-compaction_conflict : (st : State) (table : List ℕ) (seq : ℕ) (o : Option Transaction) → due_at st table o ≢ [] → conflict_at st table o ≡ Some seq → Conflict seq ≡ compaction_at st table o
-compaction_conflict st table seq None some first = absurd cc
-compaction_conflict st table seq (Some t) some first = some_due st table t seq (due table (version_at st t.snapshot)) some first
+compaction_conflicts : (st : State) (table : List ℕ) (seq : ℕ) (o : Option Transaction) → due_at st table o ≢ [] → conflict_at st table o ≡ Some seq → Conflict seq ≡ compaction_at st table o
+compaction_conflicts st table seq None some first = absurd cc
+compaction_conflicts st table seq (Some t) some first = some_due st table t seq (due table (version_at st t.snapshot)) some first
 
-all_due : (st : State) (table : List ℕ) (t : Transaction) (cells : List ℕ) → cells ≢ [] → first_conflict st t.snapshot (whole_table table ∷ []) ≡ None
+all_due : (st : State) (table : List ℕ) (t : Transaction) (cells : List ℕ) → cells ≢ [] → first_conflict st t.snapshot (units_in st table t cells) ≡ None
     → Compacted table cells (marks_in table cells (version_at st t.snapshot).tables) (last st + 1) [] [] ≡ compaction_of st table t cells
 all_due st table t [] some free = absurd (some refl)
 all_due st table t (c ∷ cs) some free = rw free refl
@@ -194,7 +200,7 @@ compaction_done : (st : State) (table : List ℕ) (cells : List ℕ) (marks : Li
     → Compacted table cells marks seq [] [] ≡ compaction_at st table o
 compaction_done st table cells marks seq added dropped None may = absurd may
 compaction_done st table cells marks seq added dropped (Some t) may =
-    (λ i. Compacted table cells (may.3 i) (may.5 i) [] []) ∙ all_due st table t cells may.2 may.4 ∙ ap (compaction_of st table t) may.1
+    (λ i. Compacted table cells (may.3 i) (may.5 i) [] []) ∙ all_due st table t cells may.2 (sym (ap (λ (ms : List Mark). first_conflict st t.snapshot (units_of_compaction table ms)) may.3) ∙ may.4) ∙ ap (compaction_of st table t) may.1
 
 -- which entry answers a statement follows from its state
 
@@ -239,14 +245,21 @@ module _ (st : State) (session : ℕ) where
   committed_answer x seq added dropped right may = absurd cc
 
   conflict_answer : (x : Statement) (seq : ℕ) → IsConflictOf st session false x seq → IsSomeAnd (transaction st session) (MayConflict st seq) → Conflict seq ≡ answer st session x
-  conflict_answer Commit seq right may = end_conflict st seq (transaction st session) may right.1 ∙ open_unrefused (transaction st session) _ _ may
-  conflict_answer (Compact table) seq right may = free_answer (Compact table) (Conflict seq) right.0 (compaction_conflict st table seq (transaction st session) right.1 right.2)
-  conflict_answer x seq right may = absurd (true≢false (sym right.0))
+  conflict_answer Commit seq right may = end_conflict st seq (transaction st session) may right ∙ open_unrefused (transaction st session) _ _ may
+  conflict_answer (Compact table) seq right may = free_answer (Compact table) (Conflict seq) right.0 (compaction_conflicts st table seq (transaction st session) right.1 right.2)
+  conflict_answer (Insert table rows) seq right may = absurd (true≢false (sym right.0))
+  conflict_answer (Update table sets filter) seq right may = absurd (true≢false (sym right.0))
+  conflict_answer (Delete table filter) seq right may = absurd (true≢false (sym right.0))
+  conflict_answer x seq right may = absurd right
 
   ended_answer : (x : Statement) → IsEndOf st session false x → IsSomeAnd (transaction st session) (λ t. is_unchanged t.pending ≡ true) → Ended ≡ answer st session x
   ended_answer Commit right may = end_ended st (transaction st session) may ∙ open_unrefused (transaction st session) _ _ may
   ended_answer (Compact table) right may = free_answer (Compact table) Ended right.0 (compaction_ended st table (transaction st session) right.1)
-  ended_answer x right may = absurd (true≢false (sym right))
+  ended_answer (Insert table rows) right may = absurd (true≢false (sym right))
+  ended_answer (Select q) right may = absurd (true≢false (sym right))
+  ended_answer (Update table sets filter) right may = absurd (true≢false (sym right))
+  ended_answer (Delete table filter) right may = absurd (true≢false (sym right))
+  ended_answer x right may = absurd right
 
   compacted_answer : (x : Statement) (table cells : List ℕ) (marks : List Mark) (seq : ℕ) (added dropped : List Name) → (x ≡ Compact table) × (refusal st session x ≡ None)
       → IsSomeAnd (transaction st session) (MayCompact st table cells marks seq added dropped) → Compacted table cells marks seq [] [] ≡ answer st session x

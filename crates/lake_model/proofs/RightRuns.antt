@@ -5,14 +5,16 @@ use Rattle.std.specs.Cmp.{first_so, second_so}
 use Rattle.std.specs.List.{AllByRecursion, list_all}
 use Rattle.lake_model.specs.declared.entries.Fact.{Fact}
 use Rattle.lake_model.specs.declared.entries.Fact.TheVariants.{Began, Ran, Committed, Conflict, Ended, Failed}
-use Rattle.lake_model.specs.declared.replies.Reply.{Reply}
-use Rattle.lake_model.specs.declared.scripts.Numbered.{Numbered}
-use Rattle.lake_model.specs.declared.statements.Statement.{Statement}
-use Rattle.lake_model.specs.declared.statements.Statement.TheVariants.{Create, Begin, Commit, RollBack, Insert, Select, Update, Delete, Compact, Checkpoint, Collect}
+use Rattle.sql_model.specs.declared.replies.Reply.{Reply}
+use Rattle.sql_model.specs.declared.scripts.Numbered.{Numbered}
+use Rattle.sql_model.specs.declared.statements.Statement.{Statement}
+use Rattle.sql_model.specs.declared.statements.Statement.TheVariants.{Create, Begin, Commit, RollBack, Insert, Select, Update, Delete, Compact, Checkpoint, Collect}
 use Rattle.lake_model.specs.State.{State, Noted, last, transaction, after_fact, after, state_from, stated}
 use Rattle.lake_model.specs.Allowed.{IsAllowed, IsAllowedFact, IsLegalFrom}
-use Rattle.lake_model.specs.Answers.{IsRight, IsConflictOf, HasChange, reads_rows, runs_alone}
-use Rattle.lake_model.specs.Following.{EntryKind, began, ran, committed, conflict, ended, failed, kind_of, IsOneOf, Standing, inside, outside, standing, entry_rows, is_ran, is_failed, IsAnswer, AnswerFrom, IsRun}
+use Rattle.lake_model.specs.Answers.{IsRight, IsConflictOf, HasChange}
+use Rattle.sql_model.specs.StatementKinds.{reads_rows, runs_alone}
+use Rattle.lake_model.specs.Following.{EntryKind, began, ran, committed, conflict, ended, failed, kind_of, Situation, inside, outside, situation, entry_sequences, is_ran, is_failed, IsAnswer, AnswerFrom, IsRun}
+use Rattle.sql_model.specs.Listing.{IsOneOf}
 use Rattle.lake_model.specs.Text.{reply_after, reply_from}
 use Rattle.lake_model.proofs.RightAnswers.{bare, bare_state, next, next_bare, end_at, end_bare, end_ended, end_committed, end_conflict, answer, answer_bare, one_answer, none_outside, reply_bare}
 
@@ -58,11 +60,11 @@ are_kinds true ks = are_opened ks
 are_kinds false ks = is_one_kind ks
 
 -- the statement opens a transaction for itself
-abbrev opens : Standing → Statement → Bool
+abbrev opens : Situation → Statement → Bool
 opens inside x = false
 opens outside x = runs_alone x
 
-rows_shaped : (at : Standing) (x : Statement) → list_all (are_kinds (opens at x)) (entry_rows at x) ≡ true
+rows_shaped : (at : Situation) (x : Statement) → list_all (are_kinds (opens at x)) (entry_sequences at x) ≡ true
 rows_shaped inside (Create table columns distribution) = refl
 rows_shaped outside (Create table columns distribution) = refl
 rows_shaped inside Begin = refl
@@ -107,7 +109,7 @@ right_when true st session x = alone st ∷ then_ends session (next session (alo
 right_when false st session x = answer st session x ∷ []
 
 abbrev pub right_run : State → Numbered → List Fact
-right_run st n = right_when (opens (standing st n.session) n.statement) st n.session n.statement
+right_run st n = right_when (opens (situation st n.session) n.statement) st n.session n.statement
 
 then_nothing : (session : ℕ) (st : State) (f : Fact) → is_ran_kind (kind_of f) ≡ false → then_ends session st (bare f) ≡ bare f ∷ []
 then_nothing session st (Ran reply change) other = absurd cc
@@ -129,8 +131,11 @@ ran_reads st session before x (Ran reply change) kind right = (right.0, refl)
 ran_reads st session before x f kind right = absurd cc
 
 conflict_changes : (st : State) (session : ℕ) (x : Statement) (seq : ℕ) → reads_rows x ≡ true → IsConflictOf st session true x seq → HasChange st session
-conflict_changes st session (Compact table) seq reads right = absurd cc
-conflict_changes st session x seq reads right = right.1
+conflict_changes st session (Insert table rows) seq reads right = right.1
+conflict_changes st session (Select q) seq reads right = absurd right
+conflict_changes st session (Update table sets filter) seq reads right = right.1
+conflict_changes st session (Delete table filter) seq reads right = right.1
+conflict_changes st session x seq reads right = absurd cc
 
 -- the end of a statement that ran
 end_right : (st : State) (session : ℕ) (x : Statement) (f : Fact) → is_end_kind (kind_of f) ≡ true → reads_rows x ≡ true → IsAllowedFact st session f → IsRight st session true x f → is_failed f ≡ false
@@ -257,19 +262,19 @@ no_kinds : (o : Bool) → are_kinds o [] ≡ true → ⊥
 no_kinds true e = absurd cc
 no_kinds false e = absurd cc
 
-opens_alone : (at : Standing) (x : Statement) → opens at x ≡ true → runs_alone x ≡ true
+opens_alone : (at : Situation) (x : Statement) → opens at x ≡ true → runs_alone x ≡ true
 opens_alone inside x e = absurd cc
 opens_alone outside x e = e
 
 -- a statement outside a transaction that opens none for itself never does
-opens_none : (st : State) (session : ℕ) (x : Statement) → opens (standing st session) x ≡ false → IsNone (transaction st session) → runs_alone x ≡ true → ⊥
+opens_none : (st : State) (session : ℕ) (x : Statement) → opens (situation st session) x ≡ false → IsNone (transaction st session) → runs_alone x ≡ true → ⊥
 opens_none st session x closed none runs =
-    let same : opens (standing st session) x ≡ runs_alone x = ap (λ (b : Bool). opens (if b then inside else outside) x) (none_outside (transaction st session) none) in
+    let same : opens (situation st session) x ≡ runs_alone x = ap (λ (b : Bool). opens (if b then inside else outside) x) (none_outside (transaction st session) none) in
     absurd cc
 
-run_when : (st : State) (n : Numbered) (es : List Noted) (o : Bool) → opens (standing st n.session) n.statement ≡ o → are_kinds o (kinds es) ≡ true → IsLegalFrom st es → AnswerFrom n false (stated st es) → AllByRecursion IsSure es
+run_when : (st : State) (n : Numbered) (es : List Noted) (o : Bool) → opens (situation st n.session) n.statement ≡ o → are_kinds o (kinds es) ≡ true → IsLegalFrom st es → AnswerFrom n false (stated st es) → AllByRecursion IsSure es
     → bare_facts es ≡ right_when o (bare_state st) n.session n.statement
-run_when st n es true is shaped may answers sure = opened_run st n es (opens_alone (standing st n.session) n.statement is) shaped may answers sure
+run_when st n es true is shaped may answers sure = opened_run st n es (opens_alone (situation st n.session) n.statement is) shaped may answers sure
 run_when st n [] false is shaped may answers sure = absurd cc
 run_when st n (e ∷ []) false is shaped may answers sure = ap (λ (f : Fact). f ∷ []) (one_right st n false e refl (opens_none st n.session n.statement is) may.0 answers.0 sure.0)
 run_when st n (e ∷ d ∷ es) false is shaped may answers sure = absurd cc
@@ -280,10 +285,10 @@ stated_kinds st (e ∷ es) = ap (λ (ks : List EntryKind). kind_of e.entry.fact 
 
 -- the entries of a statement are the right ones
 pub run_right : (st : State) (n : Numbered) (es : List Noted) → IsLegalFrom st es → IsRun n (stated st es) → AllByRecursion IsSure es → bare_facts es ≡ right_run (bare_state st) n
-run_right st n [] may run sure = absurd (no_kinds _ (one_of_all _ (entry_rows outside n.statement) [] (rows_shaped outside n.statement) run.row))
+run_right st n [] may run sure = absurd (no_kinds _ (one_of_all _ (entry_sequences outside n.statement) [] (rows_shaped outside n.statement) run.kinds))
 run_right st n (e ∷ es) may run sure =
-    let at = standing st n.session in
-    let shaped = one_of_all _ (entry_rows at n.statement) _ (rows_shaped at n.statement) run.row in
+    let at = situation st n.session in
+    let shaped = one_of_all _ (entry_sequences at n.statement) _ (rows_shaped at n.statement) run.kinds in
     run_when st n (e ∷ es) (opens at n.statement) refl (ap (are_kinds (opens at n.statement)) (sym (stated_kinds st (e ∷ es))) ∙ shaped) may run.answers sure
 
 -- so is the state behind them, and what the statement answers

@@ -4,14 +4,15 @@ use Rattle.std.specs.List.{AllByRecursion, flat_map}
 use Rattle.std.proofs.lemmas.List.Elements.{filter-append}
 use Rattle.std.proofs.lemmas.List.{map-append, append-nil}
 use Rattle.std.proofs.lemmas.Grind.{flat_map-append}
-use Rattle.lake_model.specs.declared.scripts.Numbered.{Numbered}
-use Rattle.lake_model.specs.declared.scripts.Step.{Step}
-use Rattle.lake_model.specs.declared.scripts.Step.TheVariants.{One}
+use Rattle.sql_model.specs.declared.scripts.Numbered.{Numbered}
+use Rattle.sql_model.specs.declared.scripts.Step.{Step}
+use Rattle.sql_model.specs.declared.scripts.Step.TheVariants.{One}
 use Rattle.lake_model.specs.State.{State, Noted, opening, state, state_from, stated, after}
 use Rattle.lake_model.specs.Allowed.{IsLegal, IsLegalFrom}
-use Rattle.lake_model.specs.Following.{Follows, IsAnswered, IsRun, IsOneOf, IsInOrder, MayFollow, ShareBlock, places, statements, run_at, run_of}
+use Rattle.lake_model.specs.Following.{Follows, IsAnswered, IsRun, IsInOrder, MayFollow, ShareBlock, places, statements, run_at, run_of}
+use Rattle.sql_model.specs.Listing.{IsOneOf}
 use Rattle.lake_model.specs.Text.{text, statement_text, run_text}
-use Rattle.lake_model.proofs.Lists.{all_append, all_weaker, all_both, one_of_left, one_of_right}
+use Rattle.sql_model.proofs.Lists.{all_append, all_weaker, all_both, one_of_left, one_of_right}
 
 pub state_append : (st : State) (xs ys : List Noted) → state_from st (xs ++ ys) ≡ state_from (state_from st xs) ys
 state_append st [] ys = refl

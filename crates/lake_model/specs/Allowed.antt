@@ -1,35 +1,52 @@
 -- Which entry may stand in a state, whatever statement it answers.
-use Rattle.std.specs.Prelude.{◌≡◌, ◌≢◌, ℕ, ◌+◌, ◌==◌, ◌<◌, ◌≤◌, Bool, true, false, ◌&&◌, ◌||◌, not, nat_le, List, [], ◌∷◌, ◌++◌, drop, Some, None, IsNone, IsSomeAnd, MatchBool}
+use Rattle.std.specs.Prelude.{◌≡◌, ◌≢◌, ℕ, ◌+◌, ◌==◌, ◌<◌, ◌≤◌, Bool, true, false, ◌&&◌, ◌||◌, not, nat_le, List, [], ◌∷◌, drop, map, Some, None, IsNone, IsSomeAnd, MatchBool}
 use Rattle.std.specs.List.{AllByRecursion, list_all, list_any}
 use Rattle.lake_values.specs.declared.names.Name.{Name}
-use Rattle.lake_model.specs.declared.entries.Change.{Change}
+use Rattle.lake_values.specs.Schemas.{AllDistinct}
+use Rattle.sql_model.specs.declared.changes.Change.{Change}
 use Rattle.lake_model.specs.declared.entries.Fact.{Fact}
 use Rattle.lake_model.specs.declared.entries.Fact.TheVariants.{Created, Began, Ran, Committed, Conflict, Ended, RolledBack, Refused, Failed, Compacted, Checkpointed, Collected}
-use Rattle.lake_model.specs.declared.entries.Mark.{Mark}
-use Rattle.lake_model.specs.declared.replies.Refusal.{Refusal}
-use Rattle.lake_model.specs.declared.replies.Refusal.TheVariants.{InTransaction, NoTransaction, TableExists}
-use Rattle.lake_model.specs.declared.replies.Reply.{Reply}
-use Rattle.lake_model.specs.declared.replies.Reply.TheVariants.{Rows}
-use Rattle.lake_model.specs.Changes.{no_change, is_unchanged, units_of}
+use Rattle.sql_model.specs.declared.changes.Mark.{Mark}
+use Rattle.sql_model.specs.declared.replies.Refusal.{Refusal}
+use Rattle.sql_model.specs.declared.replies.Refusal.TheVariants.{UnknownTable, UnknownColumn, Ambiguous, TypeMismatch, ColumnCount, NotGrouped, TableExists, NoTransaction, InTransaction, TooManyRows, Arith}
+use Rattle.sql_model.specs.declared.replies.Reply.{Reply}
+use Rattle.sql_model.specs.declared.replies.Reply.TheVariants as reply
+use Rattle.sql_model.specs.Changes.{no_change, is_nil, is_unchanged}
+use Rattle.sql_model.specs.Units.{units_of, units_of_compaction}
 use Rattle.lake_model.specs.Compactions.{due, marks_in}
 use Rattle.lake_model.specs.Conflicts.{first_conflict}
-use Rattle.lake_model.specs.Listing.{SameBag}
-use Rattle.lake_model.specs.Names.{holds_rows, is_checkpoint, is_among, is_ascending}
-use Rattle.lake_model.specs.Versions.{Tables, whole_table, has_table, all_rows}
+use Rattle.sql_model.specs.Listing.{IsPartOf}
+use Rattle.lake_model.specs.Names.{holds_rows, is_checkpoint}
+use Rattle.lake_values.specs.Names.{is_among, is_ascending}
+use Rattle.sql_model.specs.Versions.{Tables, has_table, all_rows}
 use Rattle.lake_model.specs.State.{State, Noted, Transaction, opening, last, newest, last_names, version_at, transaction, view, is_inside, after}
 
--- a query changes nothing
+-- A statement that ran answers rows, and then it changes nothing, or says what it wrote, without the number of a
+-- version, which its commit makes. No other reply is that of a statement that ran.
 abbrev pub ChangesByReply : Reply → Change → Type 0
-ChangesByReply (Rows rows) change = change ≡ no_change
-ChangesByReply reply change = Unit {0}
+ChangesByReply (reply.Created table seq) change = ⊥
+ChangesByReply (reply.Begun snapshot) change = ⊥
+ChangesByReply (reply.Wrote verb count None) change = Unit {0}
+ChangesByReply (reply.Wrote verb count (Some seq)) change = ⊥
+ChangesByReply (reply.Rows rows) change = change ≡ no_change
+ChangesByReply (reply.Committed seq) change = ⊥
+ChangesByReply reply.Ended change = ⊥
+ChangesByReply reply.RolledBack change = ⊥
+ChangesByReply (reply.Conflict seq) change = ⊥
+ChangesByReply (reply.Compacted cells seq) change = ⊥
+ChangesByReply (reply.Checkpointed table at) change = ⊥
+ChangesByReply (reply.Collected floor) change = ⊥
+ChangesByReply (reply.Refused cause) change = ⊥
+ChangesByReply (reply.Failed cause) change = ⊥
 
--- these stand among those, as often
-abbrev pub IsPartOf : {X : Type 0} → List X → List X → Type 0
-IsPartOf {X} xs ys = (rest : List X) × SameBag (xs ++ rest) ys
-
--- a statement removes rows that its session sees, and adds rows as the transaction's next part
-abbrev pub IsOwnChange : Tables → Reply → Change → Transaction → Type 0
-IsOwnChange seen reply change t = IsPartOf change.removed (all_rows seen) × AllByRecursion (λ added. added.part ≡ t.parts + 1) change.added × ChangesByReply reply change
+-- What a statement may answer and change in its session's transaction. It removes rows that the session sees, and adds
+-- rows as the transaction's next part: for a table at most once, and then some.
+pub record IsOwnChange (seen : Tables) (said : Reply) (change : Change) (t : Transaction) : Type 0 where
+  pub removes : IsPartOf change.removed (all_rows seen)
+  pub adds : AllByRecursion (λ a. a.part ≡ t.parts + 1) change.added
+  pub once : AllDistinct (map (λ a. a.table) change.added)
+  pub filled : AllByRecursion (λ a. is_nil a.rows ≡ false) change.added
+  pub replies : ChangesByReply said change
 
 -- a blob of the transaction that no version has yet
 abbrev pub is_new_name : State → ℕ → Name → Bool
@@ -59,7 +76,7 @@ abbrev pub MayCompact : State → List ℕ → List ℕ → List Mark → ℕ �
 MayCompact st table cells marks seq added dropped t =
     (is_single t ≡ true) × (cells ≡ due table (version_at st t.snapshot)) × (cells ≢ [])
     × (marks ≡ marks_in table cells (version_at st t.snapshot).tables)
-    × (first_conflict st t.snapshot (whole_table table ∷ []) ≡ None) × (seq ≡ last st + 1) × (can_rename st t.number added dropped ≡ true)
+    × (first_conflict st t.snapshot (units_of_compaction table marks) ≡ None) × (seq ≡ last st + 1) × (can_rename st t.number added dropped ≡ true)
 
 abbrev pub MayCheckpoint : State → List ℕ → ℕ → Name → Transaction → Type 0
 MayCheckpoint st table at name t =
@@ -79,11 +96,24 @@ MayCollect st names floor =
     (st.floor ≤ floor) × (floor ≤ last st) × AllByRecursion (λ o. floor ≤ o.1.snapshot) st.running
     × (is_ascending names ≡ true) × (list_any (is_kept st floor) names ≡ false)
 
+-- a table that is there refuses a statement outside a transaction
+abbrev pub IsTaken : State → ℕ → List ℕ → Type 0
+IsTaken st session table = (has_table table (newest st).tables ≡ true) × IsNone (transaction st session)
+
+-- Refusals for the session's transaction and for a table that is there are allowed where they hold. The others depend
+-- on the statement alone.
 abbrev pub IsAllowedRefusal : State → ℕ → Refusal → Type 0
-IsAllowedRefusal st session InTransaction = is_inside st session ≡ true
+IsAllowedRefusal st session (UnknownTable name) = Unit {0}
+IsAllowedRefusal st session (UnknownColumn name) = Unit {0}
+IsAllowedRefusal st session (Ambiguous name) = Unit {0}
+IsAllowedRefusal st session TypeMismatch = Unit {0}
+IsAllowedRefusal st session ColumnCount = Unit {0}
+IsAllowedRefusal st session NotGrouped = Unit {0}
+IsAllowedRefusal st session (TableExists table) = IsTaken st session table
 IsAllowedRefusal st session NoTransaction = IsNone (transaction st session)
-IsAllowedRefusal st session (TableExists table) = (has_table table (newest st).tables ≡ true) × IsNone (transaction st session)
-IsAllowedRefusal st session cause = Unit {0}
+IsAllowedRefusal st session InTransaction = is_inside st session ≡ true
+IsAllowedRefusal st session TooManyRows = Unit {0}
+IsAllowedRefusal st session Arith = Unit {0}
 
 abbrev pub IsAllowedFact : State → ℕ → Fact → Type 0
 IsAllowedFact st session (Created table schema seq) = IsNone (transaction st session) × (has_table table (newest st).tables ≡ false) × (seq ≡ last st + 1)

@@ -1,73 +1,39 @@
 -- Which entry answers a statement rightly in a state.
-use Rattle.std.specs.Prelude.{◌≡◌, ◌≢◌, ℕ, ◌-◌, Bool, true, false, ◌&&◌, ◌||◌, List, [], ◌∷◌, Option, None, Some, Ok, position, unwrap_or, fold, min, max, IsSomeAnd, MatchBool}
+use Rattle.std.specs.Prelude.{◌≡◌, ◌≢◌, ℕ, ◌-◌, Bool, true, false, ◌&&◌, ◌||◌, List, [], Option, None, Some, Ok, fold, min, max, IsSomeAnd, MatchBool}
 use Rattle.std.specs.Option.{option_map_or}
 use Rattle.lake_values.specs.Schemas.{TableColumns}
-use Rattle.lake_values.specs.declared.schemas.Column.{Column}
-use Rattle.lake_model.specs.declared.entries.Change.{Change}
+use Rattle.sql_model.specs.declared.changes.Change.{Change}
 use Rattle.lake_model.specs.declared.entries.Fact.{Fact}
 use Rattle.lake_model.specs.declared.entries.Fact.TheVariants.{Created, Began, Ran, Committed, Conflict, Ended, RolledBack, Refused, Failed, Compacted, Checkpointed, Collected}
-use Rattle.lake_model.specs.declared.replies.Failure.{Failure}
-use Rattle.lake_model.specs.declared.replies.Failure.TheVariants.{StoreFault}
-use Rattle.lake_model.specs.declared.replies.Refusal.{Refusal}
-use Rattle.lake_model.specs.declared.replies.Refusal.TheVariants.{TooManyRows, Arith}
-use Rattle.lake_model.specs.declared.replies.Reply.{Reply}
-use Rattle.lake_model.specs.declared.statements.Statement.{Statement}
-use Rattle.lake_model.specs.declared.statements.Statement.TheVariants.{Create, Begin, Commit, RollBack, Insert, Select, Update, Delete, Compact, Checkpoint, Collect}
-use Rattle.lake_model.specs.Changes.{is_unchanged}
-use Rattle.lake_model.specs.Compactions.{due}
+use Rattle.sql_model.specs.declared.replies.Failure.{Failure}
+use Rattle.sql_model.specs.declared.replies.Failure.TheVariants.{StoreFault}
+use Rattle.sql_model.specs.declared.replies.Refusal.{Refusal}
+use Rattle.sql_model.specs.declared.replies.Refusal.TheVariants.{UnknownTable, UnknownColumn, Ambiguous, TypeMismatch, ColumnCount, NotGrouped, TableExists, NoTransaction, InTransaction, TooManyRows, Arith}
+use Rattle.sql_model.specs.declared.replies.Reply.{Reply}
+use Rattle.sql_model.specs.declared.statements.Statement.{Statement}
+use Rattle.sql_model.specs.declared.statements.Statement.TheVariants.{Create, Begin, Commit, RollBack, Insert, Select, Update, Delete, Compact, Checkpoint, Collect}
+use Rattle.sql_model.specs.Changes.{is_unchanged}
+use Rattle.lake_model.specs.Compactions.{due, marks_in}
 use Rattle.lake_model.specs.Conflicts.{first_conflict}
-use Rattle.lake_model.specs.Versions.{whole_table, same_text}
+use Rattle.sql_model.specs.Units.{ConflictUnit, units_of_compaction}
 use Rattle.lake_model.specs.State.{State, last, version_at, transaction}
 use Rattle.lake_model.specs.Refusals.{refusal, result_of}
+use Rattle.sql_model.specs.StatementKinds.{reads_rows, runs_alone, may_fail, is_write, is_commit, is_collect}
+use Rattle.sql_model.specs.Creating.{schema_of}
 
--- without a named column the first one distributes
-abbrev pub distribution_of : List Column → Option (List ℕ) → ℕ
-distribution_of columns None = 0
-distribution_of columns (Some name) = unwrap_or (position (λ c. same_text c.name name) columns) 0
-
-abbrev pub schema_of : List Column → Option (List ℕ) → TableColumns
-schema_of columns distribution = record { columns = columns; distribution = distribution_of columns distribution }
-
+-- it creates the table of this name, with this schema
 abbrev pub IsCreateOf : Statement → List ℕ → TableColumns → Type 0
 IsCreateOf (Create table columns distribution) name schema = (table ≡ name) × (schema ≡ schema_of columns distribution)
-IsCreateOf x name schema = ⊥
-
--- a statement that changes rows
-abbrev pub is_write : Statement → Bool
-is_write (Insert table rows) = true
-is_write (Update table sets filter) = true
-is_write (Delete table filter) = true
-is_write x = false
-
-abbrev pub is_select : Statement → Bool
-is_select (Select q) = true
-is_select x = false
-
-abbrev pub is_commit : Statement → Bool
-is_commit Commit = true
-is_commit x = false
-
-abbrev pub is_collect : Statement → Bool
-is_collect (Collect retain) = true
-is_collect x = false
-
--- a statement that compacts or checkpoints a table
-abbrev pub is_upkeep : Statement → Bool
-is_upkeep (Compact table) = true
-is_upkeep (Checkpoint table) = true
-is_upkeep x = false
-
--- a statement that reads or changes rows
-abbrev pub reads_rows : Statement → Bool
-reads_rows x = is_write x || is_select x
-
--- outside a transaction it opens one for itself alone, and ends it
-abbrev pub runs_alone : Statement → Bool
-runs_alone x = reads_rows x || is_upkeep x
-
--- it may fail for the store
-abbrev pub may_fail : Statement → Bool
-may_fail x = runs_alone x || is_commit x || is_collect x
+IsCreateOf Begin name schema = ⊥
+IsCreateOf Commit name schema = ⊥
+IsCreateOf RollBack name schema = ⊥
+IsCreateOf (Insert table rows) name schema = ⊥
+IsCreateOf (Select q) name schema = ⊥
+IsCreateOf (Update table sets filter) name schema = ⊥
+IsCreateOf (Delete table filter) name schema = ⊥
+IsCreateOf (Compact table) name schema = ⊥
+IsCreateOf (Checkpoint table) name schema = ⊥
+IsCreateOf (Collect retain) name schema = ⊥
 
 -- it answers and changes what it does over what its session sees
 abbrev pub IsRunOf : State → ℕ → Statement → Reply → Change → Type 0
@@ -84,27 +50,72 @@ HasChange st session = IsSomeAnd (transaction st session) (λ t. is_unchanged t.
 abbrev pub due_at_snapshot : State → ℕ → List ℕ → List ℕ
 due_at_snapshot st session table = option_map_or (λ t. due table (version_at st t.snapshot)) (transaction st session) []
 
--- the first commit since the session's snapshot that wrote the table
-abbrev pub table_conflict : State → ℕ → List ℕ → Option ℕ
-table_conflict st session table = option_map_or (λ t. first_conflict st t.snapshot (whole_table table ∷ [])) (transaction st session) None
+-- what a compaction of the table at a snapshot writes
+abbrev pub compaction_units : State → List ℕ → ℕ → List ConflictUnit
+compaction_units st table snapshot =
+    let version = version_at st snapshot in units_of_compaction table (marks_in table (due table version) version.tables)
 
--- a commit conflicts where it would commit a change; a compaction with the first commit that wrote its table
+-- the first commit since the session's snapshot that wrote what a compaction of the table writes
+abbrev pub compaction_conflict : State → ℕ → List ℕ → Option ℕ
+compaction_conflict st session table = option_map_or (λ t. first_conflict st t.snapshot (compaction_units st table t.snapshot)) (transaction st session) None
+
+-- a write that stands alone would commit: it ran, and changed something
+abbrev pub WouldCommit : State → ℕ → Bool → Type 0
+WouldCommit st session ran = (ran ≡ true) × HasChange st session
+
+-- something is due in the table, and a commit after the session's snapshot wrote what its compaction would write
+abbrev pub IsCompactionConflict : State → ℕ → List ℕ → ℕ → Type 0
+IsCompactionConflict st session table seq =
+    (refusal st session (Compact table) ≡ None) × (due_at_snapshot st session table ≢ [])
+    × (compaction_conflict st session table ≡ Some seq)
+
+-- a COMMIT conflicts where there is a change, a write where it would commit, and a compaction as said
 abbrev pub IsConflictOf : State → ℕ → Bool → Statement → ℕ → Type 0
-IsConflictOf st session ran (Compact table) seq =
-    (refusal st session (Compact table) ≡ None) × (due_at_snapshot st session table ≢ []) × (table_conflict st session table ≡ Some seq)
-IsConflictOf st session ran x seq = (commits ran x ≡ true) × HasChange st session
+IsConflictOf st session ran (Create table columns distribution) seq = ⊥
+IsConflictOf st session ran Begin seq = ⊥
+IsConflictOf st session ran Commit seq = HasChange st session
+IsConflictOf st session ran RollBack seq = ⊥
+IsConflictOf st session ran (Insert table rows) seq = WouldCommit st session ran
+IsConflictOf st session ran (Select q) seq = ⊥
+IsConflictOf st session ran (Update table sets filter) seq = WouldCommit st session ran
+IsConflictOf st session ran (Delete table filter) seq = WouldCommit st session ran
+IsConflictOf st session ran (Compact table) seq = IsCompactionConflict st session table seq
+IsConflictOf st session ran (Checkpoint table) seq = ⊥
+IsConflictOf st session ran (Collect retain) seq = ⊥
+
+-- the compaction of the table isn't refused, and nothing is due
+abbrev pub HasNothingDue : State → ℕ → List ℕ → Type 0
+HasNothingDue st session table =
+    (refusal st session (Compact table) ≡ None) × (due_at_snapshot st session table ≡ [])
 
 -- a COMMIT without a change ends, a statement that stands alone after it ran, and a compaction where nothing is due
 abbrev pub IsEndOf : State → ℕ → Bool → Statement → Type 0
-IsEndOf st session ran (Compact table) = (refusal st session (Compact table) ≡ None) × (due_at_snapshot st session table ≡ [])
-IsEndOf st session ran x = (is_commit x || (reads_rows x && ran)) ≡ true
+IsEndOf st session ran (Create table columns distribution) = ⊥
+IsEndOf st session ran Begin = ⊥
+IsEndOf st session ran Commit = Unit {0}
+IsEndOf st session ran RollBack = ⊥
+IsEndOf st session ran (Insert table rows) = ran ≡ true
+IsEndOf st session ran (Select q) = ran ≡ true
+IsEndOf st session ran (Update table sets filter) = ran ≡ true
+IsEndOf st session ran (Delete table filter) = ran ≡ true
+IsEndOf st session ran (Compact table) = HasNothingDue st session table
+IsEndOf st session ran (Checkpoint table) = ⊥
+IsEndOf st session ran (Collect retain) = ⊥
 
 -- a refusal that comes behind a fault of the store, or none
 abbrev pub may_come_late : Option Refusal → Bool
 may_come_late None = true
+may_come_late (Some (UnknownTable name)) = false
+may_come_late (Some (UnknownColumn name)) = false
+may_come_late (Some (Ambiguous name)) = false
+may_come_late (Some TypeMismatch) = false
+may_come_late (Some ColumnCount) = false
+may_come_late (Some NotGrouped) = false
+may_come_late (Some (TableExists name)) = false
+may_come_late (Some NoTransaction) = false
+may_come_late (Some InTransaction) = false
 may_come_late (Some TooManyRows) = true
 may_come_late (Some Arith) = true
-may_come_late (Some cause) = false
 
 -- A failure of the store, where no refusal stands before it. A commit fails only with a change. It fails for the
 -- session's own calls, and so does COLLECT.
@@ -128,9 +139,20 @@ least_snapshot st = fold (λ n o. min n o.1.snapshot) (last st) st.running
 abbrev pub floor_after : State → ℕ → ℕ
 floor_after st retain = max st.floor (min (last st - retain) (least_snapshot st))
 
+-- it raises the floor so
 abbrev pub IsCollectionOf : State → ℕ → Statement → ℕ → Type 0
-IsCollectionOf st session (Collect retain) floor = (floor ≡ floor_after st retain) × (refusal st session (Collect retain) ≡ None)
-IsCollectionOf st session x floor = ⊥
+IsCollectionOf st session (Create table columns distribution) floor = ⊥
+IsCollectionOf st session Begin floor = ⊥
+IsCollectionOf st session Commit floor = ⊥
+IsCollectionOf st session RollBack floor = ⊥
+IsCollectionOf st session (Insert table rows) floor = ⊥
+IsCollectionOf st session (Select q) floor = ⊥
+IsCollectionOf st session (Update table sets filter) floor = ⊥
+IsCollectionOf st session (Delete table filter) floor = ⊥
+IsCollectionOf st session (Compact table) floor = ⊥
+IsCollectionOf st session (Checkpoint table) floor = ⊥
+IsCollectionOf st session (Collect retain) floor =
+    (floor ≡ floor_after st retain) × (refusal st session (Collect retain) ≡ None)
 
 -- `ran` says that a Ran of the same statement stands before
 abbrev pub IsRight : State → ℕ → Bool → Statement → Fact → Type 0

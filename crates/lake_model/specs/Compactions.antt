@@ -1,11 +1,13 @@
 -- Which cells of a table are due for compaction, and what a version is after one.
 use Rattle.std.specs.Prelude.{ℕ, ◌==◌, Bool, false, ◌||◌, ◌&&◌, not, List, [], ◌∷◌, map, filter, if◌then◌else◌}
 use Rattle.std.specs.List.{list_any}
-use Rattle.lake_model.specs.declared.entries.Mark.{Mark}
-use Rattle.lake_model.specs.declared.entries.MarkedRow.{MarkedRow}
-use Rattle.lake_model.specs.Changes.{mark_cmp, same_mark, marks_of, has_mark}
-use Rattle.lake_model.specs.Listing.{ordered}
-use Rattle.lake_model.specs.Versions.{Table, Tables, Version, whole_table, same_text, marked_rows_of}
+use Rattle.sql_model.specs.declared.changes.Mark.{Mark}
+use Rattle.sql_model.specs.declared.changes.MarkedRow.{MarkedRow}
+use Rattle.sql_model.specs.Changes.{mark_cmp, same_mark, has_mark}
+use Rattle.sql_model.specs.Units.{marks_of, units_of_compaction}
+use Rattle.sql_model.specs.Listing.{ordered}
+use Rattle.sql_model.specs.Versions.{Table, Tables, Version, marked_rows_of}
+use Rattle.lake_values.specs.Texts.{same_text}
 
 -- the numbers of the cells, ascending
 abbrev pub all_cells : List ℕ
@@ -53,4 +55,4 @@ compacted_table table seq marks t = if same_text t.name table then record t { ro
 abbrev pub version_compacted : List ℕ → ℕ → List Mark → Version → Version
 version_compacted table seq marks version =
     let tables = map (compacted_table table seq marks) version.tables in
-    record { tables = tables; worn = filter (has_mark tables) version.worn; wrote = whole_table table ∷ [] }
+    record { tables = tables; worn = filter (has_mark tables) version.worn; wrote = units_of_compaction table marks }

@@ -1,12 +1,8 @@
 -- First committer wins: the commit with which a transaction conflicts.
-use Rattle.std.specs.Prelude.{ℕ, zero, suc, ◌+◌, ◌-◌, Bool, List, [], ◌∷◌, Option, find}
+use Rattle.std.specs.Prelude.{ℕ, ◌+◌, ◌-◌, Bool, List, Option, find}
+use Rattle.sql_model.specs.Listing.{numbers}
 use Rattle.lake_model.specs.State.{State, last, version_at}
-use Rattle.lake_model.specs.Versions.{ConflictUnit, share_unit}
-
--- so many numbers from this one on
-abbrev pub numbers : ℕ → ℕ → List ℕ
-numbers from zero = []
-numbers from (suc count) = from ∷ numbers (from + 1) count
+use Rattle.sql_model.specs.Units.{ConflictUnit, share_unit}
 
 -- the numbers of the commits after a snapshot, ascending
 abbrev pub commits_after : State → ℕ → List ℕ

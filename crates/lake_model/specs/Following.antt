@@ -3,14 +3,16 @@ use Rattle.std.specs.Prelude.{◌≡◌, ◌≢◌, ℕ, ◌≤◌, ◌==◌, �
 use Rattle.std.specs.List.{AllByRecursion, flat_map}
 use Rattle.lake_model.specs.declared.entries.Fact.{Fact}
 use Rattle.lake_model.specs.declared.entries.Fact.TheVariants as fact
-use Rattle.lake_model.specs.declared.scripts.Numbered.{Numbered}
-use Rattle.lake_model.specs.declared.scripts.Step.{Step}
-use Rattle.lake_model.specs.declared.scripts.Step.TheVariants.{One, Parallel}
-use Rattle.lake_model.specs.declared.statements.Statement.{Statement}
-use Rattle.lake_model.specs.declared.statements.Statement.TheVariants.{Create, Begin, Commit, RollBack, Insert, Select, Update, Delete, Compact, Checkpoint, Collect}
+use Rattle.sql_model.specs.declared.scripts.Numbered.{Numbered}
+use Rattle.sql_model.specs.declared.scripts.Step.{Step}
+use Rattle.sql_model.specs.declared.scripts.Step.TheVariants.{One, Parallel}
+use Rattle.sql_model.specs.declared.statements.Statement.{Statement}
+use Rattle.sql_model.specs.declared.statements.Statement.TheVariants.{Create, Begin, Commit, RollBack, Insert, Select, Update, Delete, Compact, Checkpoint, Collect}
 use Rattle.lake_model.specs.State.{State, Noted, opening, is_inside, stated}
 use Rattle.lake_model.specs.Allowed.{IsLegalFrom}
-use Rattle.lake_model.specs.Answers.{IsRight, is_commit}
+use Rattle.lake_model.specs.Answers.{IsRight}
+use Rattle.sql_model.specs.StatementKinds.{is_commit}
+use Rattle.sql_model.specs.Listing.{IsOneOf}
 
 -- the kinds of entries
 pub data EntryKind : Type 0 where
@@ -41,56 +43,71 @@ kind_of (fact.Compacted table cells marks seq added dropped) = compacted
 kind_of (fact.Checkpointed table at name) = checkpointed
 kind_of (fact.Collected names floor) = collected
 
--- x is a member
-abbrev pub IsOneOf : {X : Type 0} → List X → X → Type 0
-IsOneOf [] x = ⊥
-IsOneOf (y ∷ ys) x = (y ≡ x) ⊎ IsOneOf ys x
-
 -- where a session stands before a statement: inside a transaction that BEGIN opened, or outside
-pub data Standing : Type 0 where
-  inside : Standing
-  outside : Standing
+pub data Situation : Type 0 where
+  inside : Situation
+  outside : Situation
 
-abbrev pub standing : State → ℕ → Standing
-standing st session = if is_inside st session then inside else outside
+abbrev pub situation : State → ℕ → Situation
+situation st session = if is_inside st session then inside else outside
 
 abbrev pub one_entry : List EntryKind → List (List EntryKind)
 one_entry kinds = map (λ k. k ∷ []) kinds
 
--- the rows of entries of a statement that reads or changes rows
-abbrev pub row_rows : Standing → List (List EntryKind)
-row_rows inside = one_entry (ran ∷ refused ∷ failed ∷ [])
-row_rows outside =
+-- the sequences of entries of a statement that reads or changes rows
+abbrev pub row_sequences : Situation → List (List EntryKind)
+row_sequences inside = one_entry (ran ∷ refused ∷ failed ∷ [])
+row_sequences outside =
     (began ∷ refused ∷ []) ∷ (began ∷ failed ∷ []) ∷
     (began ∷ ran ∷ ended ∷ []) ∷ (began ∷ ran ∷ committed ∷ []) ∷
     (began ∷ ran ∷ conflict ∷ []) ∷ (began ∷ ran ∷ failed ∷ []) ∷ []
 
--- the rows of entries of a statement that compacts or checkpoints, where it ends by one of these
-abbrev pub upkeep_rows : List EntryKind → Standing → List (List EntryKind)
-upkeep_rows ends inside = one_entry (refused ∷ [])
-upkeep_rows ends outside = map (λ k. began ∷ k ∷ []) ends
+-- the sequences of entries of a statement that compacts or checkpoints, where it ends by one of these
+abbrev pub upkeep_sequences : List EntryKind → Situation → List (List EntryKind)
+upkeep_sequences ends inside = one_entry (refused ∷ [])
+upkeep_sequences ends outside = map (λ k. began ∷ k ∷ []) ends
 
--- the rows of entries that a statement may have
-abbrev pub entry_rows : Standing → Statement → List (List EntryKind)
-entry_rows standing (Create table columns distribution) = one_entry (created ∷ refused ∷ [])
-entry_rows standing Begin = one_entry (began ∷ refused ∷ [])
-entry_rows standing Commit = one_entry (ended ∷ committed ∷ conflict ∷ failed ∷ refused ∷ [])
-entry_rows standing RollBack = one_entry (rolled_back ∷ refused ∷ [])
-entry_rows standing (Insert table rows) = row_rows standing
-entry_rows standing (Select q) = row_rows standing
-entry_rows standing (Update table sets filter) = row_rows standing
-entry_rows standing (Delete table filter) = row_rows standing
-entry_rows standing (Compact table) = upkeep_rows (refused ∷ failed ∷ ended ∷ conflict ∷ compacted ∷ []) standing
-entry_rows standing (Checkpoint table) = upkeep_rows (refused ∷ failed ∷ checkpointed ∷ []) standing
-entry_rows standing (Collect retain) = one_entry (collected ∷ failed ∷ refused ∷ [])
+-- the sequences of entries that a statement may have
+abbrev pub entry_sequences : Situation → Statement → List (List EntryKind)
+entry_sequences situation (Create table columns distribution) = one_entry (created ∷ refused ∷ [])
+entry_sequences situation Begin = one_entry (began ∷ refused ∷ [])
+entry_sequences situation Commit = one_entry (ended ∷ committed ∷ conflict ∷ failed ∷ refused ∷ [])
+entry_sequences situation RollBack = one_entry (rolled_back ∷ refused ∷ [])
+entry_sequences situation (Insert table rows) = row_sequences situation
+entry_sequences situation (Select q) = row_sequences situation
+entry_sequences situation (Update table sets filter) = row_sequences situation
+entry_sequences situation (Delete table filter) = row_sequences situation
+entry_sequences situation (Compact table) = upkeep_sequences (refused ∷ failed ∷ ended ∷ conflict ∷ compacted ∷ []) situation
+entry_sequences situation (Checkpoint table) = upkeep_sequences (refused ∷ failed ∷ checkpointed ∷ []) situation
+entry_sequences situation (Collect retain) = one_entry (collected ∷ failed ∷ refused ∷ [])
 
 abbrev pub is_ran : Fact → Bool
+is_ran (fact.Created table schema seq) = false
+is_ran (fact.Began explicit txn snapshot) = false
 is_ran (fact.Ran reply change) = true
-is_ran f = false
+is_ran (fact.Committed seq added dropped) = false
+is_ran (fact.Conflict seq) = false
+is_ran fact.Ended = false
+is_ran fact.RolledBack = false
+is_ran (fact.Refused cause) = false
+is_ran (fact.Failed cause) = false
+is_ran (fact.Compacted table cells marks seq added dropped) = false
+is_ran (fact.Checkpointed table at name) = false
+is_ran (fact.Collected names floor) = false
 
 abbrev pub is_failed : Fact → Bool
+is_failed (fact.Created table schema seq) = false
+is_failed (fact.Began explicit txn snapshot) = false
+is_failed (fact.Ran reply change) = false
+is_failed (fact.Committed seq added dropped) = false
+is_failed (fact.Conflict seq) = false
+is_failed fact.Ended = false
+is_failed fact.RolledBack = false
+is_failed (fact.Refused cause) = false
 is_failed (fact.Failed cause) = true
-is_failed f = false
+is_failed (fact.Compacted table cells marks seq added dropped) = false
+is_failed (fact.Checkpointed table at name) = false
+is_failed (fact.Collected names floor) = false
 
 -- an entry that failed inside an explicit transaction ends it exactly where its statement is COMMIT
 abbrev pub EndsRightly : State → Statement → Noted → Type 0
@@ -108,13 +125,13 @@ AnswerFrom n before [] = Unit {0}
 AnswerFrom n before (p ∷ ps) = IsAnswer n before p.0 p.1 × AnswerFrom n (before || is_ran p.1.entry.fact) ps
 
 -- where the session stands before the first of its entries
-abbrev pub standing_before : ℕ → List (State × Noted) → Standing
-standing_before session [] = outside
-standing_before session (p ∷ ps) = standing p.0 session
+abbrev pub situation_before : ℕ → List (State × Noted) → Situation
+situation_before session [] = outside
+situation_before session (p ∷ ps) = situation p.0 session
 
 -- the entries of a statement, each with the state before it
 pub record IsRun (n : Numbered) (run : List (State × Noted)) : Type 0 where
-  pub row : IsOneOf (entry_rows (standing_before n.session run) n.statement) (map (λ p. kind_of p.1.entry.fact) run)
+  pub kinds : IsOneOf (entry_sequences (situation_before n.session run) n.statement) (map (λ p. kind_of p.1.entry.fact) run)
   pub answers : AnswerFrom n false run
 
 abbrev pub statements_of : Step → List Numbered
@@ -148,7 +165,7 @@ abbrev pub IsInOrder : List Step → List Noted → Type 0
 IsInOrder x [] = Unit {0}
 IsInOrder x (e ∷ es) = AllByRecursion (MayFollow x e) es × IsInOrder x es
 
--- each statement's entries are one row of its table, rightly answered; no other entry stands there; and the
+-- each statement's entries are one of its sequences, rightly answered; no other entry stands there; and the
 -- statements stand in order
 pub record Follows (entries : List Noted) (x : List Step) : Type 0 where
   pub runs : AllByRecursion (λ n. IsRun n (run_of n.place entries)) (statements x)

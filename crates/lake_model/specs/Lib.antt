@@ -1,19 +1,5 @@
-pub mod Listing
-pub mod Versions
-pub mod Scopes
-pub mod Types
-pub mod Mentions
-pub mod BoundForms
-pub mod Binding
-pub mod Form
-pub mod ScriptStatements
-pub mod Evaluation
-pub mod Groups
-pub mod Query
-pub mod Changes
 pub mod Compactions
 pub mod Names
-pub mod Writing
 pub mod State
 pub mod Conflicts
 pub mod Refusals
@@ -23,3 +9,4 @@ pub mod Following
 pub mod Replies
 pub mod Text
 pub mod Laws
+pub mod Examples

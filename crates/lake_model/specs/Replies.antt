@@ -7,14 +7,14 @@ use Rattle.lake_values.specs.declared.values.Value.{Value}
 use Rattle.lake_values.specs.declared.names.Kind.{Kind}
 use Rattle.lake_values.specs.declared.names.Kind.TheVariants.{File, Vector, Manifest, Checkpoint}
 use Rattle.lake_values.specs.declared.names.Name.{Name}
-use Rattle.lake_model.specs.declared.replies.Refusal.{Refusal}
-use Rattle.lake_model.specs.declared.replies.Refusal.TheVariants.{UnknownTable, UnknownColumn, Ambiguous, TypeMismatch, ColumnCount, NotGrouped, TableExists, NoTransaction, InTransaction, TooManyRows, Arith}
-use Rattle.lake_model.specs.declared.replies.Failure.{Failure}
-use Rattle.lake_model.specs.declared.replies.Failure.TheVariants.{StoreFault, Damaged}
-use Rattle.lake_model.specs.declared.replies.Verb.{Verb}
-use Rattle.lake_model.specs.declared.replies.Verb.TheVariants.{Inserted, Updated, Deleted}
-use Rattle.lake_model.specs.declared.replies.Reply.{Reply}
-use Rattle.lake_model.specs.declared.replies.Reply.TheVariants.{Created, Begun, Wrote, Rows, Committed, Ended, RolledBack, Conflict, Compacted, Checkpointed, Collected, Refused, Failed}
+use Rattle.sql_model.specs.declared.replies.Refusal.{Refusal}
+use Rattle.sql_model.specs.declared.replies.Refusal.TheVariants.{UnknownTable, UnknownColumn, Ambiguous, TypeMismatch, ColumnCount, NotGrouped, TableExists, NoTransaction, InTransaction, TooManyRows, Arith}
+use Rattle.sql_model.specs.declared.replies.Failure.{Failure}
+use Rattle.sql_model.specs.declared.replies.Failure.TheVariants.{StoreFault, Damaged}
+use Rattle.sql_model.specs.declared.replies.Verb.{Verb}
+use Rattle.sql_model.specs.declared.replies.Verb.TheVariants.{Inserted, Updated, Deleted}
+use Rattle.sql_model.specs.declared.replies.Reply.{Reply}
+use Rattle.sql_model.specs.declared.replies.Reply.TheVariants.{Created, Begun, Wrote, Rows, Committed, Ended, RolledBack, Conflict, Compacted, Checkpointed, Collected, Refused, Failed}
 
 abbrev pub kind_text : Kind → List ℕ
 kind_text File = codes "f"
@@ -75,8 +75,19 @@ row_line row = text_of_row row ++ codes "\n"
 
 -- the rows of an answer, a line each
 abbrev pub rows_text : Reply → List ℕ
+rows_text (Created table seq) = []
+rows_text (Begun snapshot) = []
+rows_text (Wrote verb count seq) = []
 rows_text (Rows rows) = flat_map row_line rows
-rows_text reply = []
+rows_text (Committed seq) = []
+rows_text Ended = []
+rows_text RolledBack = []
+rows_text (Conflict seq) = []
+rows_text (Compacted cells seq) = []
+rows_text (Checkpointed table at) = []
+rows_text (Collected floor) = []
+rows_text (Refused cause) = []
+rows_text (Failed cause) = []
 
 -- the reply of the statement at a place: the place, what the reply says, and its rows
 abbrev pub text_of_reply : ℕ → Reply → List ℕ

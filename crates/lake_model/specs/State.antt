@@ -2,15 +2,16 @@
 use Rattle.std.specs.Prelude.{ℕ, ◌+◌, ◌-◌, ◌==◌, Bool, false, ◌&&◌, not, List, [], ◌∷◌, ◌++◌, Option, None, Some, length, filter, slice_get, unwrap_or, if◌then◌else◌}
 use Rattle.std.specs.Option.{option_map_or}
 use Rattle.lake_values.specs.declared.names.Name.{Name}
-use Rattle.lake_model.specs.declared.entries.Change.{Change}
+use Rattle.sql_model.specs.declared.changes.Change.{Change}
 use Rattle.lake_model.specs.declared.entries.Entry.{Entry}
 use Rattle.lake_model.specs.declared.entries.Fact.{Fact}
 use Rattle.lake_model.specs.declared.entries.Fact.TheVariants.{Created, Began, Ran, Committed, Conflict, Ended, RolledBack, Refused, Failed, Compacted, Checkpointed, Collected}
-use Rattle.lake_model.specs.declared.entries.Mark.{Mark}
-use Rattle.lake_model.specs.declared.replies.Reply.{Reply}
-use Rattle.lake_model.specs.declared.replies.Reply.TheVariants.{Wrote}
-use Rattle.lake_model.specs.Versions.{Table, Tables, Version, empty_version}
-use Rattle.lake_model.specs.Changes.{no_change, pend, applied, own, marks_of, version_after}
+use Rattle.sql_model.specs.declared.changes.Mark.{Mark}
+use Rattle.sql_model.specs.declared.replies.Reply.{Reply}
+use Rattle.sql_model.specs.declared.replies.Reply.TheVariants as reply
+use Rattle.sql_model.specs.Versions.{Table, Tables, Version, empty_version}
+use Rattle.sql_model.specs.Changes.{no_change, pend, applied, own, version_after}
+use Rattle.sql_model.specs.Units.{marks_of}
 use Rattle.lake_model.specs.Compactions.{version_compacted}
 use Rattle.lake_model.specs.Names.{names_after}
 
@@ -90,8 +91,19 @@ turned session t st = record st { running = (session, t) ∷ filter (λ o. not (
 
 -- a write statement makes a part
 abbrev pub parts_of : Reply → ℕ
-parts_of (Wrote verb count seq) = 1
-parts_of reply = 0
+parts_of (reply.Created table seq) = 0
+parts_of (reply.Begun snapshot) = 0
+parts_of (reply.Wrote verb count seq) = 1
+parts_of (reply.Rows rows) = 0
+parts_of (reply.Committed seq) = 0
+parts_of reply.Ended = 0
+parts_of reply.RolledBack = 0
+parts_of (reply.Conflict seq) = 0
+parts_of (reply.Compacted cells seq) = 0
+parts_of (reply.Checkpointed table at) = 0
+parts_of (reply.Collected floor) = 0
+parts_of (reply.Refused cause) = 0
+parts_of (reply.Failed cause) = 0
 
 abbrev pub with_part : Reply → Change → Transaction → Transaction
 with_part reply change t = record t {

@@ -4,26 +4,47 @@ use Rattle.std.specs.List.{flat_map}
 use Rattle.std.specs.Option.{option_map_or}
 use Rattle.lake_model.specs.declared.entries.Fact.{Fact}
 use Rattle.lake_model.specs.declared.entries.Fact.TheVariants as fact
-use Rattle.lake_model.specs.declared.replies.Reply.{Reply}
-use Rattle.lake_model.specs.declared.replies.Reply.TheVariants.{Created, Begun, Wrote, Committed, Ended, RolledBack, Conflict, Compacted, Checkpointed, Collected, Refused, Failed}
-use Rattle.lake_model.specs.declared.scripts.Numbered.{Numbered}
-use Rattle.lake_model.specs.declared.scripts.Step.{Step}
-use Rattle.lake_model.specs.declared.statements.Statement.{Statement}
-use Rattle.lake_model.specs.declared.statements.Statement.TheVariants as statement
+use Rattle.sql_model.specs.declared.replies.Reply.{Reply}
+use Rattle.sql_model.specs.declared.replies.Reply.TheVariants.{Created, Begun, Wrote, Rows, Committed, Ended, RolledBack, Conflict, Compacted, Checkpointed, Collected, Refused, Failed}
+use Rattle.sql_model.specs.declared.scripts.Numbered.{Numbered}
+use Rattle.sql_model.specs.declared.scripts.Step.{Step}
+use Rattle.sql_model.specs.declared.statements.Statement.{Statement}
+use Rattle.sql_model.specs.declared.statements.Statement.TheVariants as statement
 use Rattle.lake_model.specs.Replies.{text_of_reply}
 use Rattle.lake_model.specs.State.{State, Noted}
 use Rattle.lake_model.specs.Following.{statements, run_of}
 
--- a commit's answer: the reply of the statement that ran, with the commit's number, or the commit itself
+-- a commit's answer: the reply of the write that ran, with the commit's number, or the commit itself
 abbrev pub committed_reply : ℕ → Option Reply → Reply
+committed_reply seq None = Committed seq
+committed_reply seq (Some (Created table own)) = Committed seq
+committed_reply seq (Some (Begun snapshot)) = Committed seq
 committed_reply seq (Some (Wrote verb count own)) = Wrote verb count (Some seq)
-committed_reply seq before = Committed seq
+committed_reply seq (Some (Rows rows)) = Committed seq
+committed_reply seq (Some (Committed own)) = Committed seq
+committed_reply seq (Some Ended) = Committed seq
+committed_reply seq (Some RolledBack) = Committed seq
+committed_reply seq (Some (Conflict own)) = Committed seq
+committed_reply seq (Some (Compacted cells own)) = Committed seq
+committed_reply seq (Some (Checkpointed table at)) = Committed seq
+committed_reply seq (Some (Collected floor)) = Committed seq
+committed_reply seq (Some (Refused cause)) = Committed seq
+committed_reply seq (Some (Failed cause)) = Committed seq
 
 -- what a statement answers that ends without a change: the reply of what ran, or for a compaction that nothing was due
 abbrev pub ended_reply : Statement → Option Reply → Reply
 ended_reply x (Some reply) = reply
+ended_reply (statement.Create table columns distribution) None = Ended
+ended_reply statement.Begin None = Ended
+ended_reply statement.Commit None = Ended
+ended_reply statement.RollBack None = Ended
+ended_reply (statement.Insert table rows) None = Ended
+ended_reply (statement.Select q) None = Ended
+ended_reply (statement.Update table sets filter) None = Ended
+ended_reply (statement.Delete table filter) None = Ended
 ended_reply (statement.Compact table) None = Compacted 0 None
-ended_reply x None = Ended
+ended_reply (statement.Checkpoint table) None = Ended
+ended_reply (statement.Collect retain) None = Ended
 
 -- what a statement answers with one more entry, from what it answered before it
 abbrev pub reply_after : Statement → Option Reply → Fact → Option Reply

@@ -1,17 +1,19 @@
-ghost use Rattle.std.specs.Prelude.{◌≡◌};
-ghost use Rattle.lake_model.specs.declared.bound.Query.{Query as Asked};
-ghost use Rattle.lake_model.specs.Laws.{FirstCommitterWins, OneText, ViewsStay};
-ghost use Rattle.lake_model.specs.Query.{Database, SameDatabase, plain};
+ghost use Rattle.lake_model.specs.Laws.{ChangesAreParts, FirstCommitterWins, OneText, StatesAreSound, ViewsStay};
 
-/// The order in which a database keeps the rows of its tables doesn't matter: a query answers the same rows over every
-/// database that has the same rows equally often, or the same refusal.
-pub fn same_bags_same_answer()
-    ensures { (q : Asked) (db db' : Database) → SameDatabase db db' → plain q db ≡ plain q db' }
+/// What legality alone says of the state of a chronicle: which versions, names and open transactions it has, and that
+/// tables stay.
+pub fn states_are_sound()
+    ensures { StatesAreSound }
 {}
 
 /// What one session does leaves the transactions of all others, and what they see.
 pub fn views_stay()
     ensures { ViewsStay }
+{}
+
+/// What a statement changes is a part of its transaction: only a write changes something, and it counts as a part.
+pub fn changes_are_parts()
+    ensures { ChangesAreParts }
 {}
 
 /// First committer wins: of two commits that wrote one conflict unit, the later one's transaction saw the earlier. So no

@@ -4,8 +4,8 @@ ghost use Rattle.std.specs.String.{string_bytes};
 ghost use Rattle.std.specs.List.{flat_map};
 ghost use Rattle.lake_model.specs.Replies.{text_of_reply, line_text, refusal_text, failure_text, verb_text, seq_text, kind_text, name_text, row_line};
 
-use crate::{Failure, Refusal, Reply, Verb};
 use lake_values::{Kind, Name, NoMemory, Row, row_text};
+use sql_model::{Failure, Refusal, Reply, Verb};
 use std::alloc::{AllocError, Global};
 
 /// Appends what is printed for the reply of the statement at a place: one line that begins with the place,

@@ -3,6 +3,11 @@
 //!
 //! Each trait counts its faults. A count never falls, and a call that answers a failure has raised it. A
 //! count that has come to the last number of 64 bits stands still there, and is taken as risen in each call.
+//!
+//! What the clauses say: every source tells the bytes that it gave and every sink those that it
+//! took, where it tells any. `MemSource` and `MemSink` fail exactly at the calls that they are
+//! told (`fails`); `SureSource` never fails, and `SureSink` only for want of memory.
+//! `PoolPlan::standing` is exactly `standing_of` of `specs/Plans`.
 #![tactic(auto)]
 
 mod calls;
@@ -24,6 +29,3 @@ pub use ports::{Blobs, Blocks, Port, Staged, Stored};
 pub use sinks::{MemSink, OutputSink, SureSink};
 pub use sources::{InputSource, MemSource, SureSource};
 pub use streams::{Sink, Source};
-
-#[cfg(test)]
-mod tests;

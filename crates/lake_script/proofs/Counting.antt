@@ -2,8 +2,8 @@
 use Rattle.std.proofs.Common.{◌≡◌, ℕ, suc, ◌+◌, List, [], ◌∷◌, Option, Result, Err, length, refl, sym, ap, subst, ◌∙◌}
 use Rattle.std.specs.Prelude.{IsErrOf}
 use Rattle.std.specs.Io.KnownBytes.{Appends}
-use Rattle.lake_model.specs.declared.scripts.Step.{Step}
-use Rattle.lake_model.specs.declared.scripts.Step.TheVariants.{One, Parallel}
+use Rattle.sql_model.specs.declared.scripts.Step.{Step}
+use Rattle.sql_model.specs.declared.scripts.Step.TheVariants.{One, Parallel}
 use Rattle.lake_model.specs.Following.{statements}
 use Rattle.lake_script.specs.declared.writing.RunEnd.{RunEnd}
 use Rattle.lake_script.specs.declared.writing.RunEnd.TheVariants.{WriteFault}

@@ -3,23 +3,25 @@ use Rattle.std.proofs.Common.{◌≡◌, ℕ, true, false, List, [], ◌∷◌, 
 use Rattle.std.specs.Prelude.{codes}
 use Rattle.std.specs.List.{list_all}
 use Rattle.lake_values.specs.declared.values.Value.{Value}
-use Rattle.lake_model.specs.declared.bound.Bound.TheVariants as bound
-use Rattle.lake_model.specs.declared.bound.BoundExpr.{fold-roll-BoundExpr}
-use Rattle.lake_model.specs.declared.bound.BoundExpr.TheVariants.{Column, rolls-Column}
-use Rattle.lake_model.specs.declared.bound.Query.{Query}
-use Rattle.lake_model.specs.declared.replies.Reply.TheVariants.{Rows}
-use Rattle.lake_model.specs.declared.statements.Statement.TheVariants.{Select}
-use Rattle.lake_model.specs.Binding.{IsBound}
-use Rattle.lake_model.specs.BoundForms.{own_guards, guards_left, own_pairs, answered_by}
-use Rattle.lake_model.specs.Mentions.{in_order}
-use Rattle.lake_model.specs.Changes.{no_change}
-use Rattle.lake_model.specs.Evaluation.{Look, look, look_step, of_value, value_at}
-use Rattle.lake_model.specs.Listing.{ordered}
-use Rattle.lake_model.specs.Query.{checked, order_cmp, plain}
+use Rattle.sql_model.specs.declared.bound.Bound.TheVariants as bound
+use Rattle.sql_model.specs.declared.bound.BoundExpr.{fold-roll-BoundExpr}
+use Rattle.sql_model.specs.declared.bound.BoundExpr.TheVariants.{Column, rolls-Column}
+use Rattle.sql_model.specs.declared.bound.Query.{Query}
+use Rattle.sql_model.specs.declared.replies.Reply.TheVariants.{Rows}
+use Rattle.sql_model.specs.declared.statements.Statement.TheVariants.{Select}
+use Rattle.sql_model.specs.Binding.{IsBound}
+use Rattle.sql_model.specs.BoundForms.{own_guards, guards_left, own_pairs, answered_by}
+use Rattle.sql_model.specs.Mentions.{in_order}
+use Rattle.sql_model.specs.Changes.{no_change}
+use Rattle.sql_model.specs.Evaluation.{Look, look, look_step, of_value}
+use Rattle.lake_values.specs.Rows.{value_at}
+use Rattle.sql_model.specs.Listing.{ordered}
+use Rattle.sql_model.specs.Query.{checked, order_cmp, plain}
 use Rattle.lake_model.specs.State.{state, view}
-use Rattle.lake_model.specs.Versions.{Tables, rows_of}
-use Rattle.lake_model.specs.Writing.{effect_if_bound, queried, result_over, schemas_of}
-use Rattle.lake_script.specs.Examples.{row, entries, query_of}
+use Rattle.sql_model.specs.Versions.{Tables, rows_of}
+use Rattle.sql_model.specs.Writing.{effect_if_bound, queried, result_over, schemas_of}
+use Rattle.lake_model.specs.Examples.{row}
+use Rattle.lake_script.specs.Examples.{entries, query_of}
 
 -- a column is the value in it
 look_column : (r : List Value) (c : ℕ) → look r (Column c) ≡ of_value (value_at r c) true

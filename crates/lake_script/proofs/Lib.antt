@@ -8,3 +8,4 @@ pub mod Between
 pub mod Seats
 pub mod Lending
 pub mod ReadScripts
+pub mod OneTextOfBytes

@@ -2,10 +2,10 @@
 use Rattle.std.proofs.Common.{◌≡◌, ℕ, ◌+◌, true, List, [], ◌∷◌, refl}
 use Rattle.std.specs.Prelude.{Bool, false, ◌&&◌}
 use Rattle.std.specs.List.{list_all}
-use Rattle.lake_model.specs.declared.scripts.Step.{Step}
-use Rattle.lake_model.specs.declared.scripts.Step.TheVariants.{One, Parallel}
-use Rattle.lake_model.specs.Form.{is_form}
-use Rattle.lake_model.specs.ScriptStatements.{is_script_statement}
+use Rattle.sql_model.specs.declared.scripts.Step.{Step}
+use Rattle.sql_model.specs.declared.scripts.Step.TheVariants.{One, Parallel}
+use Rattle.sql_model.specs.Form.{is_form}
+use Rattle.sql_model.specs.ScriptStatements.{is_script_statement}
 use Rattle.sql_parser.specs.Scripts.{AreNumbered, AreNumberedFrom, AllStatements, all_of_step}
 use Rattle.lake_script.specs.Scripts.{AreInTurn}
 

@@ -1,7 +1,7 @@
 -- The sessions of a script by their places.
 use Rattle.std.proofs.Common.{◌≡◌, ℕ, zero, suc, ◌+◌, ◌-◌, ◌<◌, false, List, [], ◌∷◌, ◌++◌, length, get_or, sym, ap, ◌∙◌, subst, arith}
 use Rattle.std.specs.Prelude.{slice_set}
-use Rattle.lake_model.specs.declared.scripts.Numbered.{Numbered}
+use Rattle.sql_model.specs.declared.scripts.Numbered.{Numbered}
 use Rattle.lake_session.specs.Sessions.{SessionSeen}
 use Rattle.lake_script.specs.Scripts.{IsRunnable}
 use Rattle.lake_script.specs.Sessions.{AreSeated, ports_of}

@@ -3,7 +3,7 @@ use Rattle.std.specs.Prelude.{ℕ, ◌<◌, ◌≤◌, ◌⊎◌, List, [], ◌+
 use Rattle.std.specs.Fmt.{decimal}
 use Rattle.std.specs.Io.KnownBytes.{Appends}
 use Rattle.lake_outside.specs.Counts.{Rises}
-use Rattle.lake_model.specs.declared.scripts.Step.{Step}
+use Rattle.sql_model.specs.declared.scripts.Step.{Step}
 use Rattle.lake_model.specs.Following.{statements}
 use Rattle.lake_script.specs.declared.status.Status.{Status}
 use Rattle.lake_script.specs.declared.status.Status.TheVariants.{Done, Usage, ScriptRefused, TooLong, ReadFault, WriteFault, NoMemory}

@@ -2,7 +2,7 @@
 use Rattle.std.specs.Prelude.{◌≡◌, ◌<◌, ◌≤◌, ◌⊎◌, ℕ, List, [], ◌∷◌, ◌++◌, Option, None, Ok, Err, length, IsSomeAnd}
 use Rattle.std.specs.Io.KnownBytes.{Consumes, IsAtEnd, Appends}
 use Rattle.lake_outside.specs.Counts.{Rises}
-use Rattle.lake_model.specs.declared.scripts.Step.{Step}
+use Rattle.sql_model.specs.declared.scripts.Step.{Step}
 use Rattle.lake_model.specs.Allowed.{IsLegal}
 use Rattle.lake_model.specs.Following.{Follows}
 use Rattle.lake_model.specs.State.{Noted}

@@ -6,3 +6,4 @@ pub mod Checks
 pub mod Sessions
 pub mod Steps
 pub mod Examples
+pub mod Laws

@@ -1,10 +1,10 @@
 -- The statements of a script as sessions run them.
 use Rattle.std.specs.Prelude.{◌≡◌, ◌≤◌, ℕ, ◌+◌, true, List, [], ◌∷◌}
-use Rattle.lake_model.specs.declared.scripts.Numbered.{Numbered}
-use Rattle.lake_model.specs.declared.scripts.Step.{Step}
-use Rattle.lake_model.specs.declared.scripts.Step.TheVariants.{One, Parallel}
-use Rattle.lake_model.specs.Form.{is_form}
-use Rattle.lake_model.specs.ScriptStatements.{is_script_statement}
+use Rattle.sql_model.specs.declared.scripts.Numbered.{Numbered}
+use Rattle.sql_model.specs.declared.scripts.Step.{Step}
+use Rattle.sql_model.specs.declared.scripts.Step.TheVariants.{One, Parallel}
+use Rattle.sql_model.specs.Form.{is_form}
+use Rattle.sql_model.specs.ScriptStatements.{is_script_statement}
 
 -- a statement that a session from 1 to 16 runs
 pub record IsRunnable (n : Numbered) : Type 0 where

@@ -1,10 +1,10 @@
 //! Reading a script without running it.
 
-ghost use Rattle.std.specs.Prelude.{◌≡◌, [], ◌↔◌, ◌<◌, ◌≤◌, ◌⊎◌, ℕ, List, Some, Ok, length, map, take, OnOk, OnErr, IsErrOf, IfOk};
+ghost use Rattle.std.specs.Prelude.{◌≡◌, [], ◌↔◌, ◌<◌, ◌≤◌, ◌⊎◌, ℕ, List, Some, Ok, length, map, OnOk, OnErr, IsErrOf, IfOk};
 ghost use Rattle.std.specs.Io.KnownBytes.{Appends};
 ghost use Rattle.std.specs.String.{string_bytes};
 ghost use Rattle.lake_outside.specs.Counts.{Rises};
-ghost use Rattle.lake_model.specs.declared.scripts.Step.{Step as ScriptStep};
+ghost use Rattle.sql_model.specs.declared.scripts.Step.{Step as ScriptStep};
 ghost use Rattle.sql_parser.specs.Scripts.{script_of};
 ghost use Rattle.lake_script.specs.Checks.{ChecksAs, WritesFewer, check_text, line_of_count};
 ghost use Rattle.lake_script.specs.Commands.{IsCheck};

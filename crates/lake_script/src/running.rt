@@ -1,16 +1,17 @@
-ghost use Rattle.std.specs.Prelude.{◌≡◌, ◌^◌, ◌<◌, false, ◌≤◌, ◌⊎◌, ◌↔◌, List, ℕ, [], None, Some, length, map, IsSome, IsSomeAnd, is_some, OnOk, IsErrOf, vec_len};
+ghost use Rattle.std.specs.Prelude.{◌≡◌, ◌^◌, ◌<◌, false, ◌≤◌, ◌⊎◌, ◌↔◌, List, ℕ, None, Some, length, map, IsSome, IsSomeAnd, OnOk, IsErrOf, vec_len};
 ghost use Rattle.std.specs.String.{string_bytes};
 ghost use Rattle.lake_outside.specs.Counts.{Rises};
-ghost use Rattle.lake_model.specs.declared.scripts.Step.{Step as ScriptStep};
+ghost use Rattle.sql_model.specs.declared.scripts.Step.{Step as ScriptStep};
 ghost use Rattle.lake_model.specs.Allowed.{IsLegal};
 ghost use Rattle.lake_model.specs.Following.{Follows};
 ghost use Rattle.lake_script.specs.Commands.{IsCommand};
 ghost use Rattle.lake_core.specs.Lakes.{new_lake};
 ghost use Rattle.lake_script.specs.Scripts.{AreInTurn, IsRunnable};
-ghost use Rattle.lake_script.specs.Sessions.{AreSeated, HasStepped, IsReady, ports_of};
+ghost use Rattle.lake_script.specs.Sessions.{AreSeated, ports_of};
 ghost use Rattle.sql_parser.specs.Scripts.{script_of};
 ghost use Rattle.lake_script.specs.Headline.{HasRead, HasRun, HasHalted, HasBegun, ReadsScript, ReadsRefused, WritesPart, EndsAs, IsQuiet};
 ghost use Rattle.lake_script.specs.Steps.{RanStep, StoppedStep};
+ghost use Rattle.lake_session.specs.Runs.{Leaves, MayRun};
 
 use crate::scripts::read_script;
 use crate::sessions::{return_ports, take_sessions};
@@ -18,9 +19,10 @@ use crate::status::Status;
 use crate::words::is_command;
 use crate::writing::{RunEnd, put_all};
 use lake_core::LakeState;
-use lake_model::{Numbered, Script, Step, reply_text};
+use lake_model::reply_text;
 use lake_outside::{Gate, Port, Sink, Source};
 use lake_session::Session;
+use sql_model::{Numbered, Script, Step};
 use std::alloc::Global;
 
 /// How a run ended, with the lake that it leaves.
@@ -149,16 +151,17 @@ fn run_step<K: Sink, P: Port>(
 ) -> Result<(), RunEnd>
     requires own { session.old.number ≡ n.now.session }
     requires unspent { session.old.spent ≡ false }
-    requires few { length lake.old.entries < 2 ^ 60 }
     requires runnable { IsRunnable n.now }
-    requires ready { IsReady lake.old n.now.session }
-    ensures ok { OnOk result (RanStep lake.old.entries lake.new.entries n.now (K.written out.old) (K.written out.new)) }
-    ensures stepped { OnOk result (HasStepped lake.old lake.new n.now.session) }
+    requires may_run { MayRun lake.old n.now.session }
+    ensures ok { OnOk result
+        (RanStep lake.old lake.new n.now (K.written out.old) (K.written out.new)) }
+    ensures leaves { Leaves lake.old lake.new n.now.session }
     ensures session { OnOk result (session.new ≡ session.old) }
     ensures port { session.new.port ≡ session.old.port }
-    ensures stopped { IsErrOf result RunEnd.WriteFault → StoppedStep ◌<◌ lake.old.entries lake.new.entries n.now (K.written out.old) (K.written out.new) }
+    ensures stopped { IsErrOf result RunEnd.WriteFault
+        → StoppedStep ◌<◌ lake.old lake.new n.now (K.written out.old) (K.written out.new) }
     ensures no_memory { IsErrOf result RunEnd.NoMemory → (out.new ≡ out.old)
-        ⊎ StoppedStep ◌≤◌ lake.old.entries lake.new.entries n.now (K.written out.old) (K.written out.new) }
+        ⊎ StoppedStep ◌≤◌ lake.old lake.new n.now (K.written out.old) (K.written out.new) }
     ensures fault { IsErrOf result RunEnd.WriteFault → Rises (K.faults out.old) (K.faults out.new) ⊎ Rises (K.idle out.old) (K.idle out.new) }
     ensures faults_never_fall { K.faults out.old ≤ K.faults out.new }
     ensures idle_never_falls { K.idle out.old ≤ K.idle out.new }

@@ -6,8 +6,8 @@ ghost use Rattle.lake_script.specs.Scripts.{AreInTurn};
 
 use crate::reading::{ReadEnd, read_all};
 use crate::status::Status;
-use lake_model::Script;
 use lake_outside::Source;
+use sql_model::Script;
 use sql_parser::{ParseFault, parse_script};
 use std::alloc::Global;
 

@@ -5,22 +5,24 @@ use Rattle.std.specs.Option.{option_map_or, option_or}
 use Rattle.lake_values.specs.declared.schemas.Column.{Column}
 use Rattle.lake_model.specs.declared.entries.Fact.{Fact}
 use Rattle.lake_model.specs.declared.entries.Fact.TheVariants as fact
-use Rattle.lake_model.specs.declared.replies.Refusal.{Refusal}
-use Rattle.lake_model.specs.declared.replies.Refusal.TheVariants.{InTransaction, NoTransaction, TableExists}
-use Rattle.lake_model.specs.declared.replies.Reply.{Reply}
-use Rattle.lake_model.specs.declared.replies.Reply.TheVariants as reply
-use Rattle.lake_model.specs.declared.statements.Statement.{Statement}
-use Rattle.lake_model.specs.declared.statements.Statement.TheVariants.{Create, Begin, Commit, RollBack}
+use Rattle.sql_model.specs.declared.replies.Refusal.{Refusal}
+use Rattle.sql_model.specs.declared.replies.Refusal.TheVariants.{InTransaction, NoTransaction, TableExists}
+use Rattle.sql_model.specs.declared.replies.Reply.{Reply}
+use Rattle.sql_model.specs.declared.replies.Reply.TheVariants as reply
+use Rattle.sql_model.specs.declared.statements.Statement.{Statement}
+use Rattle.sql_model.specs.declared.statements.Statement.TheVariants.{Create, Begin, Commit, RollBack}
 use Rattle.lake_model.specs.Allowed.{IsAllowedRefusal}
-use Rattle.lake_model.specs.Answers.{HasChange, IsRight, schema_of}
-use Rattle.lake_model.specs.Changes.{applied, is_unchanged, no_change}
-use Rattle.lake_model.specs.Following.{AnswerFrom, IsAnswer, IsOneOf, entry_rows, is_failed, kind_of, standing}
-use Rattle.lake_model.specs.Refusals.{existing_table, refusal, unbound}
-use Rattle.lake_model.specs.Binding.{refused}
+use Rattle.lake_model.specs.Answers.{HasChange, IsRight}
+use Rattle.sql_model.specs.Creating.{schema_of}
+use Rattle.sql_model.specs.Changes.{applied, is_unchanged, no_change}
+use Rattle.lake_model.specs.Following.{AnswerFrom, IsAnswer, entry_sequences, is_failed, kind_of, situation}
+use Rattle.sql_model.specs.Listing.{IsOneOf}
+use Rattle.lake_model.specs.Refusals.{existing_table, refusal, binding_refusal}
+use Rattle.sql_model.specs.Binding.{refused}
 use Rattle.lake_model.specs.State.{State, Noted, Transaction, after_fact, is_inside, last, newest, state_from, stated, transaction, version_at}
 use Rattle.lake_model.specs.Text.{reply_after, reply_from}
-use Rattle.lake_model.specs.Versions.{has_table}
-use Rattle.lake_model.specs.Writing.{schemas_of}
+use Rattle.sql_model.specs.Versions.{has_table}
+use Rattle.sql_model.specs.Writing.{schemas_of}
 use Rattle.lake_core.specs.declared.who.Who.{Who}
 use Rattle.lake_core.specs.Facts.{answer, beginning, commitment, creation, ending}
 use Rattle.lake_core.specs.Lakes.{IsExplicit, noted}
@@ -34,7 +36,7 @@ run_of who facts = map (noted who) facts
 
 -- in this state these entries, a first one and more, answer the statement so
 pub record Answers (st : State) (who : Who) (x : Statement) (f : Fact) (fs : List Fact) (said : Reply) : Type 0 where
-  pub row : IsOneOf (entry_rows (standing st who.session) x) (map kind_of (f ∷ fs))
+  pub row : IsOneOf (entry_sequences (situation st who.session) x) (map kind_of (f ∷ fs))
   pub right : AnswerFrom (numbered who x) false (stated st (run_of who (f ∷ fs)))
   pub replies : reply_from x None (f ∷ fs) ≡ Some said
   pub few : length (run_of who (f ∷ fs)) ≤ 3
@@ -48,7 +50,7 @@ pub answer_at : (st : State) (who : Who) (x : Statement) (before : Bool) (f : Fa
 answer_at st who x before f right fails = record { session = refl; right = right; ends = never_ends (is_failed f) (is_inside st who.session) _ fails }
 
 -- one entry
-pub one_answers : (st : State) (who : Who) (x : Statement) (f : Fact) → IsOneOf (entry_rows (standing st who.session) x) (kind_of f ∷ []) → IsRight st who.session false x f → is_failed f ≡ false →
+pub one_answers : (st : State) (who : Who) (x : Statement) (f : Fact) → IsOneOf (entry_sequences (situation st who.session) x) (kind_of f ∷ []) → IsRight st who.session false x f → is_failed f ≡ false →
     reply_after x None f ≡ Some (answer f) → GoesOn st (after_fact who.session false f st) who.session → Answers st who x f [] (answer f)
 one_answers st who x f row right fails replies goes_on = record {
   row = row;
@@ -62,7 +64,7 @@ one_answers st who x f row right fails replies goes_on = record {
 pub by_fact : (st : State) (who : Who) (x : Statement) (f g : Fact) → f ≡ g → Answers st who x g [] (answer g) → Answers st who x f [] (answer f)
 by_fact st who x f g same answers = let P : Fact → Type 0 = λ h. Answers st who x h [] (answer h) in subst P (sym same) answers
 
-pub refusal_answers : (st : State) (who : Who) (x : Statement) (cause : Refusal) → IsOneOf (entry_rows (standing st who.session) x) (kind_of (fact.Refused cause) ∷ []) → IsExplicit st who.session →
+pub refusal_answers : (st : State) (who : Who) (x : Statement) (cause : Refusal) → IsOneOf (entry_sequences (situation st who.session) x) (kind_of (fact.Refused cause) ∷ []) → IsExplicit st who.session →
     refusal st who.session x ≡ Some cause → Answers st who x (fact.Refused cause) [] (reply.Refused cause)
 refusal_answers st who x cause row explicit is = one_answers st who x (fact.Refused cause) row is refl refl (stopped who.session st explicit)
 
@@ -108,8 +110,8 @@ commit_answers st who t is =
     let session = who.session in
     by_fact st who Commit (commitment st session) (ending st t) (is_ending session st t is)
     (each_end session st t (λ f. GoesOn st (after_fact session false f st) session → Answers st who Commit f [] (answer f))
-    (λ same on. one_answers st who Commit fact.Ended (inl refl) refl refl refl on)
-    (λ changed seq on. one_answers st who Commit (fact.Conflict seq) (inr (inr (inl refl))) (refl, has_change st session t is changed) refl refl on)
+    (λ same on. one_answers st who Commit fact.Ended (inl refl) tt refl refl on)
+    (λ changed seq on. one_answers st who Commit (fact.Conflict seq) (inr (inr (inl refl))) (has_change st session t is changed) refl refl on)
     (λ changed on. one_answers st who Commit (fact.Committed (last st + 1) [] []) (inr (inl refl)) refl refl refl on)
     (gone session st (after_fact session false (ending st t) st) (ending_none session st t is)))
 
@@ -126,7 +128,7 @@ module _ (st : State) (table : List ℕ) (columns : List Column) (distribution :
 
   pub refused_inside : (t : Transaction) → transaction st session ≡ Some t → IsExplicit st session → refusal st session (Create table columns distribution) ≡ Some InTransaction
   refused_inside t is explicit =
-      ap (λ (b : Bool). option_or (if b then Some InTransaction else None) (option_or (existing_table table (newest st).tables) (unbound st session (Create table columns distribution))))
+      ap (λ (b : Bool). option_or (if b then Some InTransaction else None) (option_or (existing_table table (newest st).tables) (binding_refusal st session (Create table columns distribution))))
       (inside_of session st t is explicit).1
 
   pub refused_existing : transaction st session ≡ None → has_table table (newest st).tables ≡ true → refusal st session (Create table columns distribution) ≡ Some (TableExists table)

@@ -3,22 +3,22 @@ use Rattle.std.proofs.Common.{◌≡◌, ℕ, Bool, true, false, not, List, Opti
 use Rattle.std.specs.Prelude.{Result, is_some}
 use Rattle.std.specs.Option.{option_or}
 use Rattle.lake_values.specs.declared.values.Value.{Value}
-use Rattle.lake_model.specs.declared.bound.Bound.{Bound}
-use Rattle.lake_model.specs.declared.bound.Bound.TheVariants as bound
-use Rattle.lake_model.specs.declared.replies.Refusal.{Refusal}
-use Rattle.lake_model.specs.declared.replies.Refusal.TheVariants.{InTransaction, NoTransaction, TableExists, UnknownTable, UnknownColumn, Ambiguous, TypeMismatch, ColumnCount, NotGrouped}
-use Rattle.lake_model.specs.declared.statements.OrderBy.TheVariants.{Name, Number}
-use Rattle.lake_model.specs.declared.statements.Statement.{Statement}
+use Rattle.sql_model.specs.declared.bound.Bound.{Bound}
+use Rattle.sql_model.specs.declared.bound.Bound.TheVariants as bound
+use Rattle.sql_model.specs.declared.replies.Refusal.{Refusal}
+use Rattle.sql_model.specs.declared.replies.Refusal.TheVariants.{InTransaction, NoTransaction, TableExists, UnknownTable, UnknownColumn, Ambiguous, TypeMismatch, ColumnCount, NotGrouped}
+use Rattle.sql_model.specs.declared.statements.OrderBy.TheVariants.{Name, Number}
+use Rattle.sql_model.specs.declared.statements.Statement.{Statement}
 use Rattle.lake_model.specs.Allowed.{IsAllowedRefusal}
-use Rattle.lake_model.specs.Binding.{refused, answered, mistyped, miscounted, misgrouped}
-use Rattle.lake_model.specs.BoundForms.{bound_form}
-use Rattle.lake_model.specs.Mentions.{Mention, Mentions, nothing, one, both, first, mentions, refused_if, unknown_table, unknown_column, ambiguous_name}
-use Rattle.lake_model.specs.Mentions as mention
-use Rattle.lake_model.specs.Query as query
-use Rattle.lake_model.specs.Scopes.{TableSchemas, schema_named}
+use Rattle.sql_model.specs.Binding.{refused, answered, mistyped, miscounted, misgrouped}
+use Rattle.sql_model.specs.BoundForms.{bound_form}
+use Rattle.sql_model.specs.Mentions.{Mention, Mentions, nothing, one, both, first, mentions, refused_if, unknown_table, unknown_column, ambiguous_name}
+use Rattle.sql_model.specs.Mentions as mention
+use Rattle.sql_model.specs.Query as query
+use Rattle.sql_model.specs.Scopes.{TableSchemas, schema_named}
 use Rattle.lake_model.specs.State.{State}
-use Rattle.lake_model.specs.Versions.{Tables, rows_of}
-use Rattle.lake_model.specs.Writing as writing
+use Rattle.sql_model.specs.Versions.{Tables, rows_of}
+use Rattle.sql_model.specs.Writing as writing
 
 -- a refusal that says nothing of the transactions or of a table that is there
 

@@ -3,14 +3,14 @@ use Rattle.std.proofs.Common.{◌≡◌, ℕ, List, [], map, Option, None, Some,
 use Rattle.std.specs.Option.{option_or}
 use Rattle.lake_values.specs.Schemas.{AllDistinct}
 use Rattle.lake_values.specs.declared.schemas.Column.{Column}
-use Rattle.lake_model.specs.declared.bound.Bound.{Bound}
-use Rattle.lake_model.specs.declared.replies.Refusal.{Refusal}
-use Rattle.lake_model.specs.declared.statements.Statement.{Statement}
-use Rattle.lake_model.specs.declared.statements.Statement.TheVariants.{Create}
-use Rattle.lake_model.specs.Binding.{refused, answered, IsBound, IsRefused}
-use Rattle.lake_model.specs.BoundForms.{bound_form}
-use Rattle.lake_model.specs.Mentions.{first, ambiguous_name, in_columns, unknown_table, unknown_column, mentions}
-use Rattle.lake_model.specs.Scopes.{TableSchemas}
+use Rattle.sql_model.specs.declared.bound.Bound.{Bound}
+use Rattle.sql_model.specs.declared.replies.Refusal.{Refusal}
+use Rattle.sql_model.specs.declared.statements.Statement.{Statement}
+use Rattle.sql_model.specs.declared.statements.Statement.TheVariants.{Create}
+use Rattle.sql_model.specs.Binding.{refused, answered, IsBound, IsRefused}
+use Rattle.sql_model.specs.BoundForms.{bound_form}
+use Rattle.sql_model.specs.Mentions.{first, ambiguous_name, in_columns, unknown_table, unknown_column, mentions}
+use Rattle.sql_model.specs.Scopes.{TableSchemas}
 use Rattle.sql_binder.proofs.Distinct.{distinct_columns}
 
 bound_none : (o : Option Refusal) (form form' : Bound) → ◌≡◌ {A = Result Bound Refusal} (answered o form) (Ok form') → o ≡ None

@@ -1,11 +1,15 @@
 -- What a lake says of a session's open transaction.
-use Rattle.std.proofs.Common.{◌≡◌, ℕ, ◌+◌, Bool, true, false, not, None, Some, Option, refl, sym, ap, ◌∙◌, subst}
+use Rattle.std.proofs.Common.{◌≡◌, ℕ, ◌+◌, Bool, true, false, not, None, Some, Option, Ok, refl, sym, ap, ◌∙◌, subst}
 use Rattle.std.specs.Prelude.{is_some}
 use Rattle.std.specs.Option.{option_map, option_map_or}
 use Rattle.lake_model.specs.State.{State, Transaction, next_part, transaction, view}
-use Rattle.lake_model.specs.Versions.{Tables}
+use Rattle.sql_model.specs.declared.statements.Statement.{Statement}
+use Rattle.sql_model.specs.Versions.{Tables}
+use Rattle.sql_model.specs.Writing.{Effect, effect_of}
 use Rattle.lake_core.specs.declared.opened.OpenTxn.{OpenTxn}
+use Rattle.lake_core.specs.Lakes.{IsStatementEffect}
 use Rattle.lake_core.specs.Opened.{opened}
+use Rattle.lake_session.specs.Effects.{IsEffectOf}
 
 next_of : (o : Option Transaction) (seen : OpenTxn) → ◌≡◌ {A = Option OpenTxn} (option_map opened o) (Some seen) → seen.parts + 1 ≡ option_map_or (λ t. t.parts + 1) o 1
 next_of None seen is = absurd cc
@@ -20,6 +24,13 @@ as_next_part P st session lent part seen next holds =
     let Q : Tables → Type 0 = λ tables. P tables part in
     let R : ℕ → Type 0 = λ n. P (view st session) n in
     subst R next (subst Q seen holds)
+
+-- so what a statement does over what is lent, as this part, is what it does in its transaction
+pub effect_inside : (x : Statement) (st : State) (session : ℕ) (lent : Tables) (part : ℕ) (effect : Effect) → lent ≡ view st session → part ≡ next_part st session
+    → IsEffectOf x lent part effect → IsStatementEffect st session effect
+effect_inside x st session lent part effect seen next is =
+    let P : Tables → ℕ → Type 0 = λ tables n. effect_of is.form tables n ≡ Ok effect in
+    record { form = is.form; reads = is.reads; does = as_next_part P st session lent part seen next is.does }
 
 -- whether there is one
 

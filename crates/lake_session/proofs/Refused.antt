@@ -1,6 +1,6 @@
 -- What is said of a refusal that was answered.
 use Rattle.std.proofs.Common.{◌≡◌, Err, subst}
-use Rattle.lake_model.specs.declared.replies.Refusal.{Refusal}
+use Rattle.sql_model.specs.declared.replies.Refusal.{Refusal}
 use Rattle.sql_binder.specs.declared.faults.BindFault.{BindFault}
 use Rattle.sql_binder.specs.declared.faults.BindFault.TheVariants as binding
 use Rattle.sql_binder.specs.Judging as judging

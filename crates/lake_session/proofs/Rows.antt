@@ -2,27 +2,29 @@
 use Rattle.std.proofs.Common.{◌≡◌, ℕ, ◌+◌, Bool, true, false, ◌||◌, List, [], ◌∷◌, None, Some, Option, Ok, Err, refl, sym, ap, ◌∙◌, subst, arith, inl, inr, if◌then◌else◌}
 use Rattle.std.specs.Prelude.{Result}
 use Rattle.lake_values.specs.declared.values.Value.{Value}
-use Rattle.lake_model.specs.declared.bound.Bound.{Bound}
-use Rattle.lake_model.specs.declared.entries.Change.{Change}
+use Rattle.sql_model.specs.declared.bound.Bound.{Bound}
+use Rattle.sql_model.specs.declared.changes.Change.{Change}
 use Rattle.lake_model.specs.declared.entries.Fact.{Fact}
 use Rattle.lake_model.specs.declared.entries.Fact.TheVariants as fact
-use Rattle.lake_model.specs.declared.replies.Refusal.{Refusal}
-use Rattle.lake_model.specs.declared.replies.Reply.{Reply}
-use Rattle.lake_model.specs.declared.replies.Reply.TheVariants as reply
-use Rattle.lake_model.specs.declared.statements.Statement.{Statement}
-use Rattle.lake_model.specs.declared.statements.Statement.TheVariants.{Insert, Select, Update, Delete}
-use Rattle.lake_model.specs.Answers.{HasChange, IsConflictOf, IsEndOf, IsRight, commits, is_upkeep, is_write, reads_rows, runs_alone}
-use Rattle.lake_model.specs.Binding.{answered, refused}
-use Rattle.lake_model.specs.BoundForms.{bound_form}
-use Rattle.lake_model.specs.Changes.{is_unchanged, no_change, pend}
-use Rattle.lake_model.specs.Following.{EntryKind, IsOneOf, Standing, began, committed, conflict, ended, entry_rows, inside, is_failed, kind_of, outside, ran, row_rows, standing}
+use Rattle.sql_model.specs.declared.replies.Refusal.{Refusal}
+use Rattle.sql_model.specs.declared.replies.Reply.{Reply}
+use Rattle.sql_model.specs.declared.replies.Reply.TheVariants as reply
+use Rattle.sql_model.specs.declared.statements.Statement.{Statement}
+use Rattle.sql_model.specs.declared.statements.Statement.TheVariants.{Insert, Select, Update, Delete}
+use Rattle.lake_model.specs.Answers.{HasChange, IsConflictOf, IsEndOf, IsRight, commits}
+use Rattle.sql_model.specs.StatementKinds.{is_upkeep, is_write, reads_rows, runs_alone}
+use Rattle.sql_model.specs.Binding.{answered, refused}
+use Rattle.sql_model.specs.BoundForms.{bound_form}
+use Rattle.sql_model.specs.Changes.{is_unchanged, no_change, pend}
+use Rattle.lake_model.specs.Following.{EntryKind, Situation, began, committed, conflict, ended, entry_sequences, inside, is_failed, kind_of, outside, ran, row_sequences, situation}
+use Rattle.sql_model.specs.Listing.{IsOneOf}
 use Rattle.lake_model.specs.Following as following
 use Rattle.lake_model.specs.Refusals.{refusal, refusal_in, result_of}
-use Rattle.lake_model.specs.Scopes.{TableSchemas}
+use Rattle.sql_model.specs.Scopes.{TableSchemas}
 use Rattle.lake_model.specs.State.{State, Transaction, after, after_fact, is_inside, last, transaction, with_part}
 use Rattle.lake_model.specs.Text.{reply_after}
-use Rattle.lake_model.specs.Versions.{Tables}
-use Rattle.lake_model.specs.Writing as writing
+use Rattle.sql_model.specs.Versions.{Tables}
+use Rattle.sql_model.specs.Writing as writing
 use Rattle.lake_model.proofs.Effects.{query_made}
 use Rattle.lake_core.specs.declared.who.Who.{Who}
 use Rattle.lake_core.specs.Facts.{answer, commitment}
@@ -40,7 +42,7 @@ refusal_rows st session (Update table sets filter) reads = refl
 refusal_rows st session (Delete table filter) reads = refl
 refusal_rows st session x reads = absurd cc
 
-entries_rows : (x : Statement) (place : Standing) → reads_rows x ≡ true → entry_rows place x ≡ row_rows place
+entries_rows : (x : Statement) (place : Situation) → reads_rows x ≡ true → entry_sequences place x ≡ row_sequences place
 entries_rows (Insert table rows) place reads = refl
 entries_rows (Select q) place reads = refl
 entries_rows (Update table sets filter) place reads = refl
@@ -67,11 +69,11 @@ conflicts_write st session seq (Delete table filter) write change = (refl, chang
 conflicts_write st session seq x write change = absurd cc
 
 -- its entries, where the session stands so
-row_at : (st : State) (session : ℕ) (x : Statement) (there : Bool) (kinds : List EntryKind) → reads_rows x ≡ true → is_inside st session ≡ there → IsOneOf (row_rows (if there then inside else outside)) kinds →
-    IsOneOf (entry_rows (standing st session) x) kinds
+pub row_at : (st : State) (session : ℕ) (x : Statement) (there : Bool) (kinds : List EntryKind) → reads_rows x ≡ true → is_inside st session ≡ there → IsOneOf (row_sequences (if there then inside else outside)) kinds →
+    IsOneOf (entry_sequences (situation st session) x) kinds
 row_at st session x there kinds reads is one =
     let P : List (List EntryKind) → Type 0 = λ rows. IsOneOf rows kinds in
-    subst P (sym (ap (λ (b : Bool). entry_rows (if b then inside else outside) x) is ∙ entries_rows x (if there then inside else outside) reads)) one
+    subst P (sym (ap (λ (b : Bool). entry_sequences (if b then inside else outside) x) is ∙ entries_rows x (if there then inside else outside) reads)) one
 
 -- a statement that changed something is a write
 
@@ -160,7 +162,7 @@ module _ (st : State) (who : Who) (x : Statement) (reads : reads_rows x ≡ true
     writes changed = changed_write _ _ x said change reads is changed
 
     -- with the entry that ends the transaction
-    alone_with : (f : Fact) → IsOneOf (row_rows outside) (began ∷ ran ∷ kind_of f ∷ []) → IsRight ran_state who.session true x f → is_failed f ≡ false → reply_after x (Some said) f ≡ Some (ended_reply said (answer f)) →
+    alone_with : (f : Fact) → IsOneOf (row_sequences outside) (began ∷ ran ∷ kind_of f ∷ []) → IsRight ran_state who.session true x f → is_failed f ≡ false → reply_after x (Some said) f ≡ Some (ended_reply said (answer f)) →
         transaction (after_fact who.session false f ran_state) who.session ≡ None → Answers st who x (begun st) (fact.Ran said change ∷ f ∷ []) (ended_reply said (answer f))
     unfolding ran_state
     alone_with f row right fails replies none =

@@ -2,12 +2,13 @@
 use Rattle.std.proofs.Common.{◌≡◌, ℕ, ◌+◌, ◌≤◌, Bool, true, false, not, ◌&&◌, nat_eq, eq-eqb, cond, List, [], ◌∷◌, None, Some, Option, filter, refl, sym, ap, ◌∙◌, subst, arith, if◌then◌else◌}
 use Rattle.std.specs.Prelude.{IfSome, IsSome, IsNone}
 use Rattle.std.specs.Option.{option_map_or}
-use Rattle.lake_model.specs.declared.entries.Change.{Change}
+use Rattle.sql_model.specs.declared.changes.Change.{Change}
 use Rattle.lake_model.specs.declared.entries.Fact.{Fact}
 use Rattle.lake_model.specs.declared.entries.Fact.TheVariants.{Committed, Conflict, Ended}
-use Rattle.lake_model.specs.declared.replies.Reply.{Reply}
-use Rattle.lake_model.specs.declared.replies.Reply.TheVariants.{Wrote}
-use Rattle.lake_model.specs.Changes.{is_unchanged, units_of, version_after}
+use Rattle.sql_model.specs.declared.replies.Reply.{Reply}
+use Rattle.sql_model.specs.declared.replies.Reply.TheVariants.{Wrote}
+use Rattle.sql_model.specs.Changes.{is_unchanged, version_after}
+use Rattle.sql_model.specs.Units.{units_of}
 use Rattle.lake_model.specs.Conflicts.{first_conflict}
 use Rattle.lake_model.specs.State.{State, Transaction, after_fact, after_ran, after_stop, ended, is_inside, last, newest, next_part, opened_by, parts_of, transaction, turned, with_part, with_version}
 use Rattle.lake_core.specs.Facts.{commit_or_conflict, commitment, ending}

@@ -4,16 +4,16 @@ ghost use Rattle.std.specs.Prelude.{◌≡◌, ◌<◌, ◌≤◌, ℕ, List, []
 ghost use Rattle.lake_values.specs.Schemas.{AllDistinct};
 ghost use Rattle.lake_values.specs.declared.schemas.Column.{Column as Declared};
 ghost use Rattle.lake_core.specs.Lakes.{IsExplicit, state_of};
-ghost use Rattle.lake_model.specs.Answers.{distribution_of, schema_of};
-ghost use Rattle.lake_model.specs.Binding.{IsRefused};
+ghost use Rattle.sql_model.specs.Creating.{distribution_of, schema_of};
+ghost use Rattle.sql_model.specs.Binding.{IsRefused};
 ghost use Rattle.lake_model.specs.Refusals.{refusal};
-ghost use Rattle.lake_model.specs.Versions.{same_text};
-ghost use Rattle.lake_model.specs.declared.statements.Statement.TheVariants as statement;
+ghost use Rattle.lake_values.specs.Texts.{same_text};
+ghost use Rattle.sql_model.specs.declared.statements.Statement.TheVariants as statement;
 
 use lake_core::LakeState;
-use lake_model::Refusal;
 use lake_outside::Port;
 use lake_values::{Column, Columns, NoMemory, Schema, Text, copy_columns};
+use sql_model::Refusal;
 use std::alloc::Global;
 
 /// The refusal of a CREATE that the binder refuses: that of the transaction's state and that of a name that is taken

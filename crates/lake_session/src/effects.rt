@@ -1,31 +1,30 @@
 //! What a statement answers and changes over what its session sees.
 
 ghost use Rattle.std.specs.Prelude.{◌≡◌, ℕ, [], ◌∷◌, ◌++◌, true, false, Ok, Err, length, map, IfOk, OnOk, IsErrOf};
-ghost use Rattle.lake_model.specs.Binding.{IsBound};
-ghost use Rattle.lake_model.specs.declared.bound.Bound.TheVariants as bound;
-ghost use Rattle.lake_model.specs.declared.replies.Verb.TheVariants as verb;
-ghost use Rattle.lake_model.specs.Changes.{addition, change_of, no_change};
-ghost use Rattle.lake_model.specs.Form.{is_form};
-ghost use Rattle.lake_model.specs.Answers.{reads_rows};
-ghost use Rattle.lake_model.specs.Query as spec;
-ghost use Rattle.lake_model.specs.Versions.{rows_of};
-ghost use Rattle.lake_model.specs.Writing as writing;
+ghost use Rattle.sql_model.specs.declared.bound.Bound.TheVariants as bound;
+ghost use Rattle.sql_model.specs.declared.replies.Verb.TheVariants as verb;
+ghost use Rattle.sql_model.specs.Changes.{addition, change_of, no_change};
+ghost use Rattle.sql_model.specs.Form.{is_form};
+ghost use Rattle.sql_model.specs.StatementKinds.{reads_rows};
+ghost use Rattle.sql_model.specs.Query as spec;
+ghost use Rattle.sql_model.specs.Versions.{rows_of};
+ghost use Rattle.sql_model.specs.Writing as writing;
 ghost use Rattle.row_evaluation.specs.Conditions.{AreGuards};
 ghost use Rattle.table_history.specs.Stores.{marked_of};
-ghost use Rattle.plain_query.specs.Databases.{IsReady};
-ghost use Rattle.lake_session.specs.Effects.{IfRefused, effect_seen};
+ghost use Rattle.plain_query.specs.Databases.{IsEvaluable};
+ghost use Rattle.lake_session.specs.Effects.{IfRefused, IsEffectOf, effect_seen};
 ghost use Rattle.row_evaluation.specs.declared.rows.EvaluationFault.TheVariants as fault;
 
 use crate::lending::{slices_of, tables_lent};
 use lake_core::Lent;
-use lake_model::{
-    Added, AddedList, Bound, BoundExpr, Change, MarkedRow, Query, Refusal, Reply, Statement, Verb,
-    in_mark_order, in_row_order,
-};
-use lake_values::{Listed, NoMemory, Row, Rows, Text, copy_rows};
+use lake_values::{Listed, NoMemory, Row, Rows, Text};
 use plain_query::{QueryFault, plain};
 use row_evaluation::{EvaluationFault, evaluated, is_matched};
 use sql_binder::{BindFault, bind};
+use sql_model::{
+    Added, AddedList, Bound, BoundExpr, Change, MarkedRow, Query, Refusal, Reply, Statement, Verb,
+    in_mark_order, in_row_order,
+};
 use std::alloc::{AllocError, AllocFailed, Global};
 use table_history::ViewRow;
 
@@ -93,40 +92,37 @@ impl From<BindFault> for EffectFault {
     }
 }
 
-/// The bound form of a statement over what its session sees, and what it does there as this part of a transaction.
-pub fn run_over(
+/// What a statement does over what its session sees, as this part of a transaction.
+pub fn effect_of_statement(
     alloc: Global,
     statement: &Statement,
     lent: &Lent<'_>,
     part: u32,
-) -> Result<(Bound, Effect), EffectFault>
+) -> Result<Effect, EffectFault>
     requires form { is_form statement.now ≡ true }
     requires rows { reads_rows statement.now ≡ true }
-    ensures bound { IfOk result (λ made. IsBound statement.now (writing.schemas_of lent.now) made.0) }
-    ensures effect { IfOk result (λ made. writing.effect_of made.0 lent.now part ≡ Ok (effect_seen made.1)) }
-    ensures result { IfOk result (λ made. writing.result_over lent.now part statement.now ≡ Ok (effect_seen made.1)) }
-    ensures refused { IfRefused result (λ refusal. writing.result_over lent.now part statement.now ≡ Err refusal) }
+    ensures form { IfOk result (λ made. IsEffectOf statement.now lent.now part (effect_seen made)) }
+    ensures result { IfOk result
+        (λ made. writing.result_over lent.now part statement.now ≡ Ok (effect_seen made)) }
+    ensures refused { IfRefused result
+        (λ refusal. writing.result_over lent.now part statement.now ≡ Err refusal) }
 {
     let schemas = lent.schemas(alloc)?;
     let bound = bind(alloc, statement, &schemas)?;
-    let effect = effect_of(alloc, &bound, lent, part)?;
-    Ok((bound, effect))
+    effect_of(alloc, bound, lent, part)
 }
 
 /// What a bound statement does over what its session sees, as this part of a transaction.
-fn effect_of(
-    alloc: Global,
-    bound: &Bound,
-    lent: &Lent<'_>,
-    part: u32,
-) -> Result<Effect, EffectFault>
-    requires { IsReady bound.now }
-    ensures effect { IfOk result (λ made. writing.effect_of bound.now lent.now part ≡ Ok (effect_seen made)) }
-    ensures refused { IfRefused result (λ refusal. writing.effect_of bound.now lent.now part ≡ Err refusal) }
+fn effect_of(alloc: Global, bound: Bound, lent: &Lent<'_>, part: u32) -> Result<Effect, EffectFault>
+    requires { IsEvaluable bound }
+    ensures effect { IfOk result
+        (λ made. writing.effect_of bound lent.now part ≡ Ok (effect_seen made)) }
+    ensures refused { IfRefused result
+        (λ refusal. writing.effect_of bound lent.now part ≡ Err refusal) }
 {
     match bound {
-        Bound::Select(query) => queried(alloc, query, lent),
-        Bound::Insert { table, rows, .. } => Ok(inserted(alloc, table, rows, part)?),
+        Bound::Select(query) => queried(alloc, &query, lent),
+        Bound::Insert { table, rows, .. } => Ok(inserted(alloc, &table, rows, part)?),
         Bound::Update {
             table,
             guards,
@@ -135,7 +131,7 @@ fn effect_of(
             ..
         } => updated(
             alloc,
-            table,
+            &table,
             guards.as_slice(),
             computed.as_slice(),
             items.as_slice(),
@@ -148,7 +144,7 @@ fn effect_of(
             computed,
         } => deleted(
             alloc,
-            table,
+            &table,
             guards.as_slice(),
             computed.as_slice(),
             lent,
@@ -160,7 +156,7 @@ fn effect_of(
 
 /// The rows that a query answers.
 fn queried(alloc: Global, query: &Query, lent: &Lent<'_>) -> Result<Effect, EffectFault>
-    requires { IsReady (bound.Select query.now) }
+    requires { IsEvaluable (bound.Select query.now) }
     ensures effect { IfOk result (λ made. writing.queried (spec.plain query.now (rows_of lent.now)) ≡ Ok (effect_seen made)) }
     ensures refused { IfRefused result (λ refusal. writing.queried (spec.plain query.now (rows_of lent.now)) ≡ Err refusal) }
 {
@@ -205,12 +201,14 @@ fn wrote(verb: Verb, count: usize) -> Reply
     }
 }
 
-fn inserted(alloc: Global, table: &Text, rows: &Rows, part: u32) -> Result<Effect, NoMemory>
-    ensures { IfOk result (λ made. effect_seen made ≡ (writing.wrote verb.Inserted (length rows.now), change_of table.now part [] rows.now)) }
+/// The rows are moved into the change, not copied.
+fn inserted(alloc: Global, table: &Text, rows: Rows, part: u32) -> Result<Effect, NoMemory>
+    ensures { IfOk result (λ made. effect_seen made
+        ≡ (writing.wrote verb.Inserted (length rows), change_of table.now part [] rows)) }
 {
-    let reply = wrote(Verb::Inserted, rows.rows().len());
-    let added = copy_rows(alloc, rows.rows())?;
-    let change = change_of(alloc, table, part, Vec::new(alloc), added)?;
+    let rows = rows.into_rows();
+    let reply = wrote(Verb::Inserted, rows.len());
+    let change = change_of(alloc, table, part, Vec::new(alloc), rows)?;
     Ok(Effect { reply, change })
 }
 

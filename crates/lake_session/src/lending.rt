@@ -1,7 +1,7 @@
 //! The rows that a session sees, as a query takes them.
 
 ghost use Rattle.std.specs.Prelude.{◌≡◌, map, IfOk};
-ghost use Rattle.lake_model.specs.Versions.{rows_of};
+ghost use Rattle.sql_model.specs.Versions.{rows_of};
 ghost use Rattle.plain_query.specs.Databases.{rows_lent};
 ghost use Rattle.lake_session.specs.Lending.{tables_seen};
 

@@ -1,21 +1,21 @@
 //! How each kind of statement runs.
 
-ghost use Rattle.std.specs.Prelude.{◌≡◌, true, IfOk, IsNone, IsSome};
+ghost use Rattle.std.specs.Prelude.{◌≡◌, true, IfOk, IsNone, OnErr};
 ghost use Rattle.lake_core.specs.Lakes.{state_of};
-ghost use Rattle.lake_model.specs.Answers.{reads_rows};
-ghost use Rattle.lake_model.specs.Form.{is_form};
+ghost use Rattle.sql_model.specs.StatementKinds.{reads_rows};
+ghost use Rattle.sql_model.specs.Form.{is_form};
 ghost use Rattle.lake_model.specs.State.{transaction};
-ghost use Rattle.lake_model.specs.declared.statements.Statement.TheVariants as kind;
-ghost use Rattle.lake_session.specs.Runs.{Leaves, MayRun, Ran};
-ghost use Rattle.lake_model.specs.ScriptStatements.{is_script_statement};
+ghost use Rattle.sql_model.specs.declared.statements.Statement.TheVariants as kind;
+ghost use Rattle.lake_session.specs.Runs.{IsBegunBy, Leaves, MayRun, Ran, numbered};
+ghost use Rattle.sql_model.specs.ScriptStatements.{is_script_statement};
 
 use crate::creating::{first_refusal, schema_of};
 use crate::steps::{Answered, end, ended_reply, run_inside};
 use lake_core::{LakeState, Who};
-use lake_model::{Refusal, Reply, Schemas, Statement};
 use lake_outside::Port;
 use lake_values::{Columns, NoMemory, Text};
 use sql_binder::{BindFault, bind};
+use sql_model::{Refusal, Reply, Schemas, Statement};
 use std::alloc::Global;
 
 /// Runs a session's statement, and answers its reply.
@@ -28,7 +28,10 @@ pub fn run<P: Port>(
     requires form { is_form statement.now ≡ true }
     requires kind { is_script_statement statement.now ≡ true }
     requires session { MayRun lake.old who.session }
-    ensures ran { IfOk result (λ reply. Ran lake.old lake.new who statement.now reply) }
+    ensures ran { IfOk result
+        (λ reply. Ran lake.old lake.new (numbered who statement.now) reply) }
+    ensures begun { OnErr result
+        (IsBegunBy lake.old.entries lake.new.entries (numbered who statement.now)) }
     ensures leaves { Leaves lake.old lake.new who.session }
 {
     match statement {
@@ -51,7 +54,8 @@ pub fn run<P: Port>(
 
 fn begin<P: Port>(alloc: Global, lake: &mut LakeState<P>, who: Who) -> Result<Reply, NoMemory>
     requires { MayRun lake.old who.session }
-    ensures ran { IfOk result (λ reply. Ran lake.old lake.new who kind.Begin reply) }
+    ensures ran { IfOk result (λ reply. Ran lake.old lake.new (numbered who kind.Begin) reply) }
+    ensures err { OnErr result (lake.new ≡ lake.old) }
     ensures leaves { Leaves lake.old lake.new who.session }
 {
     lake.begin(alloc, who, true)
@@ -59,7 +63,8 @@ fn begin<P: Port>(alloc: Global, lake: &mut LakeState<P>, who: Who) -> Result<Re
 
 fn commit<P: Port>(alloc: Global, lake: &mut LakeState<P>, who: Who) -> Result<Reply, NoMemory>
     requires { MayRun lake.old who.session }
-    ensures ran { IfOk result (λ reply. Ran lake.old lake.new who kind.Commit reply) }
+    ensures ran { IfOk result (λ reply. Ran lake.old lake.new (numbered who kind.Commit) reply) }
+    ensures err { OnErr result (lake.new ≡ lake.old) }
     ensures leaves { Leaves lake.old lake.new who.session }
 {
     match lake.transaction(who.session) {
@@ -70,7 +75,8 @@ fn commit<P: Port>(alloc: Global, lake: &mut LakeState<P>, who: Who) -> Result<R
 
 fn roll_back<P: Port>(alloc: Global, lake: &mut LakeState<P>, who: Who) -> Result<Reply, NoMemory>
     requires { MayRun lake.old who.session }
-    ensures ran { IfOk result (λ reply. Ran lake.old lake.new who kind.RollBack reply) }
+    ensures ran { IfOk result (λ reply. Ran lake.old lake.new (numbered who kind.RollBack) reply) }
+    ensures err { OnErr result (lake.new ≡ lake.old) }
     ensures leaves { Leaves lake.old lake.new who.session }
 {
     if lake.transaction(who.session).is_none() {
@@ -92,10 +98,12 @@ fn create<P: Port>(
     requires form { is_form statement.now ≡ true }
     requires session { MayRun lake.old who.session }
     requires statement { statement.now ≡ kind.Create table.now columns.now distribution.now }
-    ensures ran { IfOk result (λ reply. Ran lake.old lake.new who statement.now reply) }
+    ensures ran { IfOk result
+        (λ reply. Ran lake.old lake.new (numbered who statement.now) reply) }
+    ensures err { OnErr result (lake.new ≡ lake.old) }
     ensures leaves { Leaves lake.old lake.new who.session }
 {
-    // A CREATE is judged by its own columns alone.
+    // A CREATE is bound by its own columns alone.
     match bind(alloc, statement, &Schemas::empty(alloc)) {
         Ok(_) => {
             let schema = schema_of(alloc, columns, distribution)?;
@@ -119,7 +127,10 @@ fn run_rows<P: Port>(
     requires form { is_form statement.now ≡ true }
     requires rows { reads_rows statement.now ≡ true }
     requires session { MayRun lake.old who.session }
-    ensures ran { IfOk result (λ reply. Ran lake.old lake.new who statement.now reply) }
+    ensures ran { IfOk result
+        (λ reply. Ran lake.old lake.new (numbered who statement.now) reply) }
+    ensures begun { OnErr result
+        (IsBegunBy lake.old.entries lake.new.entries (numbered who statement.now)) }
     ensures leaves { Leaves lake.old lake.new who.session }
 {
     if lake.transaction(who.session).is_none() {
@@ -139,7 +150,10 @@ fn run_alone<P: Port>(
     requires rows { reads_rows statement.now ≡ true }
     requires outside { IsNone (transaction (state_of lake.old) who.session) }
     requires session { MayRun lake.old who.session }
-    ensures ran { IfOk result (λ reply. Ran lake.old lake.new who statement.now reply) }
+    ensures ran { IfOk result
+        (λ reply. Ran lake.old lake.new (numbered who statement.now) reply) }
+    ensures begun { OnErr result
+        (IsBegunBy lake.old.entries lake.new.entries (numbered who statement.now)) }
     ensures leaves { Leaves lake.old lake.new who.session }
 {
     lake.begin(alloc, who, false)?;

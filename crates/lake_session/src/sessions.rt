@@ -1,22 +1,20 @@
-ghost use Rattle.std.specs.Prelude.{◌≡◌, ◌≢◌, ◌+◌, ◌<◌, ◌≤◌, ◌^◌, ◌++◌, ℕ, List, true, false, length, IfOk, OnOk, OnErr};
-ghost use Rattle.lake_model.specs.Form.{is_form};
-ghost use Rattle.lake_model.specs.State.{Noted, next_part, transaction};
-ghost use Rattle.lake_core.specs.Lakes.{HasPart, IsExplicit, has_room, state_of};
-ghost use Rattle.lake_session.specs.Runs.{IsRunBy};
-ghost use Rattle.lake_model.specs.ScriptStatements.{is_script_statement};
+ghost use Rattle.std.specs.Prelude.{◌≡◌, ◌≤◌, true, false, IfOk, OnOk, OnErr};
+ghost use Rattle.sql_model.specs.Form.{is_form};
+ghost use Rattle.sql_model.specs.ScriptStatements.{is_script_statement};
+ghost use Rattle.lake_session.specs.Runs.{IsBegunBy, Leaves, MayRun, Ran};
 
 use crate::running::run;
 use lake_core::{LakeState, Who};
-use lake_model::{Reply, Statement};
 use lake_outside::Port;
 use lake_values::NoMemory;
+use sql_model::{Reply, Statement};
 use std::alloc::Global;
 use std::marker::Model;
 
 /// A session: it runs its statements one after another over a lake that is lent to it.
 ///
-/// After want of memory it is spent, and runs no further statement: what its last one recorded stands in the lake, and a
-/// transaction that it began may be open.
+/// After want of memory it is spent, and runs no further statement: what its last one recorded
+/// stands in the lake, and a transaction that it began may be open.
 #[derive(Drop)]
 pub struct Session<P: Port> {
     number: u32,
@@ -80,19 +78,20 @@ impl<P: Port> Session<P> {
         requires unspent { self.old.spent ≡ false }
         requires form { is_form statement.now ≡ true }
         requires kind { is_script_statement statement.now ≡ true }
-        requires few { length lake.old.entries < 2 ^ 60 }
-        requires part { HasPart (state_of lake.old) self.old.number }
-        requires explicit { IsExplicit (state_of lake.old) self.old.number }
-        requires unreserved { has_room lake.old self.old.number ≡ false }
-        ensures ran { IfOk result (λ reply. IsRunBy lake.old.entries lake.new.entries (record { place = place; session = self.old.number; statement = statement.now }) reply) }
-        ensures unreserved { OnOk result (has_room lake.new self.old.number ≡ false) }
-        ensures explicit { OnOk result (IsExplicit (state_of lake.new) self.old.number) }
-        ensures parts { OnOk result (next_part (state_of lake.new) self.old.number ≤ next_part (state_of lake.old) self.old.number + 1) }
-        ensures other_rooms { (other : ℕ) → other ≢ self.old.number → has_room lake.new other ≡ has_room lake.old other }
-        ensures other_transactions { (other : ℕ) → other ≢ self.old.number → transaction (state_of lake.new) other ≡ transaction (state_of lake.old) other }
+        requires session { MayRun lake.old self.old.number }
+        ensures ran { IfOk result (λ reply. Ran lake.old lake.new (record {
+          place = place;
+          session = self.old.number;
+          statement = statement.now;
+        }) reply) }
+        ensures begun { OnErr result (IsBegunBy lake.old.entries lake.new.entries (record {
+          place = place;
+          session = self.old.number;
+          statement = statement.now;
+        })) }
+        ensures leaves { Leaves lake.old lake.new self.old.number }
         ensures unspent { OnOk result (self.new ≡ self.old) }
         ensures spent { OnErr result (self.new ≡ record self.old { spent = true }) }
-        ensures stands { OnErr result ((run : List Noted) × (lake.new.entries ≡ lake.old.entries ++ run)) }
     {
         let who = Who {
             session: self.number,

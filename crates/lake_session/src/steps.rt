@@ -2,21 +2,20 @@
 
 ghost use Rattle.std.specs.Prelude.{◌≡◌, ◌<◌, ◌^◌, false, true, Some, IsSome, length, IfOk, OnOk, OnErr, Ok, Err};
 ghost use Rattle.lake_core.specs.Facts as facts;
-ghost use Rattle.lake_core.specs.Lakes.{HasPart, has_room, state_of};
-ghost use Rattle.lake_model.specs.Answers.{reads_rows};
-ghost use Rattle.lake_model.specs.Form.{is_form};
+ghost use Rattle.lake_core.specs.Lakes.{HasPart, IsStatementEffect, is_reserved, state_of};
+ghost use Rattle.sql_model.specs.StatementKinds.{reads_rows};
+ghost use Rattle.sql_model.specs.Form.{is_form};
 ghost use Rattle.lake_model.specs.Refusals.{result_of};
-ghost use Rattle.lake_model.specs.State.{next_part, transaction, view};
+ghost use Rattle.lake_model.specs.State.{transaction};
 ghost use Rattle.lake_model.specs.Text.{committed_reply};
-ghost use Rattle.lake_model.specs.Writing as writing;
 ghost use Rattle.lake_session.specs.Effects.{IfRefused, effect_seen};
 ghost use Rattle.lake_session.specs.Runs.{IsOutcome, Records, ended_reply, outcome, reply_said};
 
-use crate::effects::{Effect, EffectFault, run_over};
+use crate::effects::{Effect, EffectFault, effect_of_statement};
 use lake_core::{LakeState, Who};
-use lake_model::{Bound, Reply, Statement};
 use lake_outside::Port;
 use lake_values::NoMemory;
+use sql_model::{Reply, Statement};
 use std::alloc::Global;
 
 /// What a statement that reads or changes rows answered in its session's transaction.
@@ -36,23 +35,26 @@ impl Answered {
     }
 }
 
-/// The bound form of a statement over what its session sees, and what it does there.
-pub fn judged<P: Port>(
+/// What a statement does over what its session sees, as the next part of its transaction.
+pub fn effect_in_transaction<P: Port>(
     alloc: Global,
     lake: &LakeState<P>,
     session: u32,
     statement: &Statement,
-) -> Result<(Bound, Effect), EffectFault>
+) -> Result<Effect, EffectFault>
     requires form { is_form statement.now ≡ true }
     requires rows { reads_rows statement.now ≡ true }
     requires running { IsSome (transaction (state_of lake.now) session) }
     requires part { HasPart (state_of lake.now) session }
-    ensures effect { IfOk result (λ made. writing.effect_of made.0 (view (state_of lake.now) session) (next_part (state_of lake.now) session) ≡ Ok (effect_seen made.1)) }
-    ensures result { IfOk result (λ made. result_of (state_of lake.now) session statement.now ≡ Ok (effect_seen made.1)) }
-    ensures refused { IfRefused result (λ cause. result_of (state_of lake.now) session statement.now ≡ Err cause) }
+    ensures form { IfOk result
+        (λ made. IsStatementEffect (state_of lake.now) session (effect_seen made)) }
+    ensures result { IfOk result
+        (λ made. result_of (state_of lake.now) session statement.now ≡ Ok (effect_seen made)) }
+    ensures refused { IfRefused result
+        (λ cause. result_of (state_of lake.now) session statement.now ≡ Err cause) }
 {
     let part = lake.transaction(session).unwrap().parts + 1;
-    run_over(alloc, statement, &lake.lend(session), part)
+    effect_of_statement(alloc, statement, &lake.lend(session), part)
 }
 
 /// Runs a statement that reads or changes rows in its session's transaction.
@@ -67,16 +69,13 @@ pub fn run_inside<P: Port>(
     requires rows { reads_rows statement.now ≡ true }
     requires running { IsSome (transaction (state_of lake.old) who.session) }
     requires part { HasPart (state_of lake.old) who.session }
-    requires unreserved { has_room lake.old who.session ≡ false }
+    requires unreserved { is_reserved lake.old who.session ≡ false }
     ensures entry { OnOk result (Records lake.old lake.new who (outcome (result_of (state_of lake.old) who.session statement.now))) }
     ensures reply { IfOk result (λ said. IsOutcome said (result_of (state_of lake.old) who.session statement.now)) }
     ensures err { OnErr result (lake.new ≡ lake.old) }
 {
-    match judged(alloc, lake, who.session, statement) {
-        Ok((bound, effect)) => {
-            let Effect { reply, change } = effect;
-            Ok(Answered::Ran(lake.ran(alloc, who, &bound, reply, change)?))
-        }
+    match effect_in_transaction(alloc, lake, who.session, statement) {
+        Ok(Effect { reply, change }) => Ok(Answered::Ran(lake.ran(alloc, who, reply, change)?)),
         Err(EffectFault::Refused(cause)) => Ok(Answered::Refused(lake.refuse(who, cause)?)),
         Err(EffectFault::NoMemory) => Err(NoMemory),
     }

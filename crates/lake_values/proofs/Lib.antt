@@ -4,4 +4,5 @@ pub mod Joined
 pub mod Kept
 pub mod Loops
 pub mod Standing
+pub mod SameTexts
 pub mod Ties

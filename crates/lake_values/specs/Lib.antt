@@ -1,7 +1,10 @@
 pub mod Cells
+pub mod Names
 pub mod Order
 pub mod Print
 pub mod Reading
+pub mod Rows
 pub mod Schemas
 pub mod Spelling
 pub mod Lending
+pub mod Texts

@@ -46,14 +46,3 @@ fn hash_bytes(hash: u64, bytes: &[u8]) -> u64
     }
     hash
 }
-
-#[cfg(test)]
-mod tests {
-    use super::*;
-
-    #[test]
-    fn hashes(rt: HostRuntime) {
-        assert_eq!(rt; hash_bytes(OFFSET, b""), 0xcbf2_9ce4_8422_2325);
-        assert_eq!(rt; hash_bytes(OFFSET, b"a"), 0xaf63_dc4c_8601_ec8c);
-    }
-}

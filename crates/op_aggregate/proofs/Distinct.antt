@@ -7,7 +7,7 @@ use Rattle.std.proofs.lemmas.Cmp.{tied_itself}
 use Rattle.std.proofs.lemmas.List.Elements.{filter-append, filter_agree}
 use Rattle.lake_values.specs.declared.values.Value.{Value}
 use Rattle.lake_values.specs.Order.{row_cmp, row_cmp_total, row_cmp_tells}
-use Rattle.lake_model.specs.Groups.{same_row, distinct}
+use Rattle.sql_model.specs.Groups.{same_row, distinct}
 
 abbrev pub Row : Type 0
 Row = List Value

@@ -6,11 +6,12 @@ use Rattle.std.proofs.lemmas.Option.{unwrap_or-slice_get}
 use Rattle.lake_values.specs.Order.{number_of}
 use Rattle.lake_values.specs.declared.values.Value.{Value}
 use Rattle.lake_values.specs.declared.values.Value.TheVariants.{Null}
-use Rattle.lake_model.specs.declared.bound.BoundAgg.{BoundAgg}
-use Rattle.lake_model.specs.declared.bound.BoundExpr.{fold-roll-BoundExpr}
-use Rattle.lake_model.specs.declared.bound.BoundExpr.TheVariants as expression
-use Rattle.lake_model.specs.Evaluation.{Look, look, look_step, of_value, eval, value_at}
-use Rattle.lake_model.specs.Groups.{argument_fits, values_on, summary, sum_of_both}
+use Rattle.sql_model.specs.declared.bound.BoundAgg.{BoundAgg}
+use Rattle.sql_model.specs.declared.bound.BoundExpr.{fold-roll-BoundExpr}
+use Rattle.sql_model.specs.declared.bound.BoundExpr.TheVariants as expression
+use Rattle.sql_model.specs.Evaluation.{Look, look, look_step, of_value, eval}
+use Rattle.lake_values.specs.Rows.{value_at}
+use Rattle.sql_model.specs.Groups.{argument_fits, values_on, summary, sum_of_both}
 use Rattle.op_aggregate.specs.Fits.{final_fits, group_fits}
 use Rattle.op_aggregate.specs.Partials.{column, columns_kept, kept_width, total, final, finals}
 use Rattle.op_aggregate.proofs.Distinct.{Row}

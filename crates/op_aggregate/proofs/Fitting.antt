@@ -3,11 +3,11 @@ use Rattle.std.proofs.Common.{◌≡◌, ℕ, ◌<◌, ◌≤◌, ◌^◌, pos, 
 use Rattle.std.specs.List.{AllByRecursion, flat_map, list_all}
 use Rattle.std.proofs.lemmas.Bool.{le-leb}
 use Rattle.lake_values.specs.declared.values.Value.{Value}
-use Rattle.lake_model.specs.declared.bound.BoundAgg.{BoundAgg}
-use Rattle.lake_model.specs.declared.bound.BoundAgg.TheVariants.{CountAll, Count, Sum, Min, Max}
-use Rattle.lake_model.specs.declared.bound.BoundExpr.{BoundExpr}
-use Rattle.lake_model.specs.Evaluation.{fits, is_null, is_64_bits}
-use Rattle.lake_model.specs.Groups.{aggregate, aggregate_fits, groups_fit, argument_fits, same_row, key_of, group_keys, members, values_on}
+use Rattle.sql_model.specs.declared.bound.BoundAgg.{BoundAgg}
+use Rattle.sql_model.specs.declared.bound.BoundAgg.TheVariants.{CountAll, Count, Sum, Min, Max}
+use Rattle.sql_model.specs.declared.bound.BoundExpr.{BoundExpr}
+use Rattle.sql_model.specs.Evaluation.{fits, is_null, is_64_bits}
+use Rattle.sql_model.specs.Groups.{aggregate, aggregate_fits, groups_fit, argument_fits, same_row, key_of, group_keys, members, values_on}
 use Rattle.op_aggregate.specs.Fits.{part_fits, arguments_fit, finals_fit}
 use Rattle.op_aggregate.specs.Partials.{kept, partial_rows}
 use Rattle.op_aggregate.proofs.Distinct.{Row, same_itself, among, among-distinct}

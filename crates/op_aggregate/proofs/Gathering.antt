@@ -9,8 +9,8 @@ use Rattle.std.proofs.lemmas.Slice.Eq.{bytes_eq-Decides}
 use Rattle.lake_values.specs.Spelling.{value_spelling, IsValue}
 use Rattle.lake_values.proofs.FieldTies.{value_tie}
 use Rattle.lake_values.proofs.Ties.{NoneBegins-from_ties}
-use Rattle.lake_model.specs.Evaluation.{value_at}
-use Rattle.lake_model.specs.Groups.{same_row, distinct, key_of, members}
+use Rattle.lake_values.specs.Rows.{value_at}
+use Rattle.sql_model.specs.Groups.{same_row, distinct, key_of, members}
 use Rattle.op_aggregate.specs.Grouping.{with_member}
 use Rattle.op_aggregate.proofs.Distinct.{Row, same_itself, same_tells, among, other_row, distinct-append, among-distinct}
 use Rattle.op_aggregate.proofs.Kept.{Rows, map_agrees}

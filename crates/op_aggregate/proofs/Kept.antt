@@ -8,12 +8,13 @@ use Rattle.std.proofs.lemmas.List.Elements.{filter-append}
 use Rattle.lake_values.specs.Order.{number_of}
 use Rattle.lake_values.specs.declared.values.Value.{Value}
 use Rattle.lake_values.specs.declared.values.Value.TheVariants.{Null, Int, Text}
-use Rattle.lake_model.specs.declared.bound.BoundAgg.{BoundAgg}
-use Rattle.lake_model.specs.declared.bound.BoundAgg.TheVariants.{CountAll, Count, Sum, Min, Max}
-use Rattle.lake_model.specs.declared.bound.BoundExpr.{BoundExpr}
-use Rattle.lake_model.specs.Evaluation.{eval, is_64_bits, is_null, value_at}
-use Rattle.lake_model.specs.Groups.{aggregate, joined_by, summary, sum_of_both, lesser, greater, number, values_on}
-use Rattle.lake_model.proofs.Summaries.{Swaps, sum_swaps, lesser_swaps, greater_swaps}
+use Rattle.sql_model.specs.declared.bound.BoundAgg.{BoundAgg}
+use Rattle.sql_model.specs.declared.bound.BoundAgg.TheVariants.{CountAll, Count, Sum, Min, Max}
+use Rattle.sql_model.specs.declared.bound.BoundExpr.{BoundExpr}
+use Rattle.sql_model.specs.Evaluation.{eval, is_64_bits, is_null}
+use Rattle.lake_values.specs.Rows.{value_at}
+use Rattle.sql_model.specs.Groups.{aggregate, joined_by, summary, sum_of_both, lesser, greater, number, values_on}
+use Rattle.sql_model.proofs.Summaries.{Swaps, sum_swaps, lesser_swaps, greater_swaps}
 use Rattle.op_aggregate.specs.Fits.{final_fits, group_fits}
 use Rattle.op_aggregate.specs.Partials.{halves, whole, kept, columns_kept, total, final, finals}
 

@@ -3,7 +3,7 @@ use Rattle.std.proofs.Common.{◌≡◌, ℕ, Bool, true, false, ◌||◌, cond,
 use Rattle.std.specs.Prelude.{◌==◌}
 use Rattle.std.specs.List.{AllByRecursion}
 use Rattle.std.proofs.lemmas.Bool.{eqb-true}
-use Rattle.lake_model.specs.Groups.{same_row, distinct, key_of, group_keys, members}
+use Rattle.sql_model.specs.Groups.{same_row, distinct, key_of, group_keys, members}
 use Rattle.op_aggregate.specs.Grouping.{first_key}
 use Rattle.op_aggregate.proofs.Distinct.{Row, same_itself, same_tells, among}
 use Rattle.op_aggregate.proofs.Kept.{Rows, map_of_map}

@@ -6,9 +6,9 @@ use Rattle.std.proofs.lemmas.List.Elements.{All-from_recursion}
 use Rattle.std.proofs.lemmas.List.FromFn.{length-range_with_len}
 use Rattle.lake_values.specs.declared.values.Value.{Value}
 use Rattle.lake_values.specs.declared.values.Value.TheVariants.{Null, Int, Text}
-use Rattle.lake_model.specs.declared.bound.BoundAgg.{BoundAgg}
-use Rattle.lake_model.specs.declared.bound.BoundAgg.TheVariants.{CountAll, Count, Sum, Min, Max}
-use Rattle.lake_model.specs.Groups.{aggregate, group_keys, members}
+use Rattle.sql_model.specs.declared.bound.BoundAgg.{BoundAgg}
+use Rattle.sql_model.specs.declared.bound.BoundAgg.TheVariants.{CountAll, Count, Sum, Min, Max}
+use Rattle.sql_model.specs.Groups.{aggregate, group_keys, members}
 use Rattle.op_aggregate.specs.Fits.{arguments_fit, finals_fit, group_fits}
 use Rattle.op_aggregate.specs.Grouping.{first_key}
 use Rattle.op_aggregate.specs.Partials.{halves, kept, columns_kept, kept_width, finals, finished_rows}

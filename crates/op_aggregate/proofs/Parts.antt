@@ -6,9 +6,9 @@ use Rattle.std.proofs.lemmas.List.Elements.{filter-append}
 use Rattle.std.proofs.lemmas.List.FromFn.{fill_by_all}
 use Rattle.std.proofs.lemmas.Option.{unwrap_or-slice_get}
 use Rattle.lake_values.specs.declared.values.Value.TheVariants.{Null}
-use Rattle.lake_model.specs.declared.bound.BoundAgg.{BoundAgg}
-use Rattle.lake_model.specs.Evaluation.{value_at}
-use Rattle.lake_model.specs.Groups.{aggregate, same_row, distinct, key_of, group_keys, members, group_row, groups}
+use Rattle.sql_model.specs.declared.bound.BoundAgg.{BoundAgg}
+use Rattle.lake_values.specs.Rows.{value_at}
+use Rattle.sql_model.specs.Groups.{aggregate, same_row, distinct, key_of, group_keys, members, group_row, groups}
 use Rattle.op_aggregate.specs.Fits.{finals_fit, group_fits}
 use Rattle.op_aggregate.specs.Partials.{kept, partial_rows, finals, finished_rows}
 use Rattle.op_aggregate.proofs.Distinct.{Row, same_itself, same_tells, among, other_row, distinct-parts, found_once}

@@ -3,10 +3,10 @@ use Rattle.std.specs.Prelude.{ℕ, Bool, true, ◌&&◌, List, [], ◌∷◌, ma
 use Rattle.std.specs.List.{list_all, range_with_len}
 use Rattle.lake_values.specs.Order.{number_of}
 use Rattle.lake_values.specs.declared.values.Value.{Value}
-use Rattle.lake_model.specs.declared.bound.BoundAgg.{BoundAgg}
-use Rattle.lake_model.specs.declared.bound.BoundAgg.TheVariants.{CountAll, Count, Sum, Min, Max}
-use Rattle.lake_model.specs.Evaluation.{is_64_bits}
-use Rattle.lake_model.specs.Groups.{argument_fits, group_keys, members}
+use Rattle.sql_model.specs.declared.bound.BoundAgg.{BoundAgg}
+use Rattle.sql_model.specs.declared.bound.BoundAgg.TheVariants.{CountAll, Count, Sum, Min, Max}
+use Rattle.sql_model.specs.Evaluation.{is_64_bits}
+use Rattle.sql_model.specs.Groups.{argument_fits, group_keys, members}
 use Rattle.op_aggregate.specs.Partials.{columns_kept, final}
 
 -- an aggregate's argument stays within 64 bits on each row

@@ -1,7 +1,7 @@
 -- How the rows of groups are gathered.
 use Rattle.std.specs.Prelude.{ℕ, zero, suc, List, [], ◌∷◌, ◌++◌}
 use Rattle.lake_values.specs.declared.values.Value.{Value}
-use Rattle.lake_model.specs.Groups.{key_of}
+use Rattle.sql_model.specs.Groups.{key_of}
 
 -- the key of a group, as its first row has it; none without rows
 abbrev pub first_key : List ℕ → List (List Value) → List Value

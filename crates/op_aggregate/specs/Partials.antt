@@ -5,10 +5,10 @@ use Rattle.std.specs.List.{flat_map, range_with_len}
 use Rattle.lake_values.specs.Order.{number_of}
 use Rattle.lake_values.specs.declared.values.Value.{Value}
 use Rattle.lake_values.specs.declared.values.Value.TheVariants.{Null, Int, Text}
-use Rattle.lake_model.specs.declared.bound.BoundAgg.{BoundAgg}
-use Rattle.lake_model.specs.declared.bound.BoundAgg.TheVariants.{CountAll, Count, Sum, Min, Max}
-use Rattle.lake_model.specs.Evaluation.{value_at}
-use Rattle.lake_model.specs.Groups.{aggregate, summary, sum_of_both, lesser, greater, group_keys, members}
+use Rattle.sql_model.specs.declared.bound.BoundAgg.{BoundAgg}
+use Rattle.sql_model.specs.declared.bound.BoundAgg.TheVariants.{CountAll, Count, Sum, Min, Max}
+use Rattle.lake_values.specs.Rows.{value_at}
+use Rattle.sql_model.specs.Groups.{aggregate, summary, sum_of_both, lesser, greater, group_keys, members}
 
 -- A sum in two numbers of 64 bits: how often 2^63 is in it, and what is left. NULL stands twice where nothing was added.
 abbrev pub halves : Value → List Value

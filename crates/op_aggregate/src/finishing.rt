@@ -4,23 +4,25 @@ ghost use Rattle.std.specs.Prelude.{◌≡◌, ◌<◌, ◌+◌, ◌+ℤ◌, ◌
 ghost use Rattle.std.specs.List.{list_all, range_with_len};
 ghost use Rattle.lake_values.specs.Order.{number_of};
 ghost use Rattle.lake_values.specs.declared.values.Value.TheVariants as member;
-ghost use Rattle.lake_model.specs.Evaluation.{is_64_bits};
-ghost use Rattle.lake_model.specs.Groups.{sum_of_both, summary};
+ghost use Rattle.sql_model.specs.Evaluation.{is_64_bits};
+ghost use Rattle.sql_model.specs.Groups.{sum_of_both, summary};
 ghost use Rattle.row_evaluation.specs.Aggregates.{kept_by, totalled, IsShortTotal};
 ghost use Rattle.row_evaluation.specs.declared.rows.EvaluationFault.TheVariants as fault;
 ghost use Rattle.row_packet.specs.Packets.{rows_of_all};
-ghost use Rattle.op_rows.specs.declared.faults.OpFault.TheVariants as op;
+ghost use Rattle.row_evaluation.specs.declared.faults.OpFault.TheVariants as op;
 ghost use Rattle.op_aggregate.specs.Fits.{final_fits, finals_fit, group_fits};
 ghost use Rattle.op_aggregate.specs.Grouping.{first_key as key_of_first};
 ghost use Rattle.op_aggregate.specs.Partials as spec;
 
 use crate::groups::{first_key, grouped};
 use crate::partials::{HALF, columns_kept};
-use lake_model::{BoundAgg, BoundExpr};
 use lake_values::{NoMemory, Row, Value, ValueRef};
-use op_rows::{OpFault, PacketRow, put_rows};
-use row_evaluation::{Cells, EvaluationFault, Extreme, Overflow, Total, extreme_of, total_of};
+use row_evaluation::{
+    Cells, EvaluationFault, Extreme, OpFault, Overflow, PacketRow, Total, extreme_of, put_rows,
+    total_of,
+};
 use row_packet::Packet;
+use sql_model::{BoundAgg, BoundExpr};
 use std::alloc::Global;
 
 /// The groups of the rows of all parts, in the order of their first rows: each group's key, and behind it its

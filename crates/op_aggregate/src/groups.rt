@@ -3,7 +3,7 @@
 ghost use Rattle.std.specs.Prelude.{◌≡◌, ◌≤◌, ◌<◌, [], ◌∷◌, map, length, vec_len, IfOk, OnOk};
 ghost use Rattle.std.specs.List.{flat_map, AllByRecursion};
 ghost use Rattle.lake_values.specs.Spelling.{value_spelling, IsValue};
-ghost use Rattle.lake_model.specs.Groups as spec;
+ghost use Rattle.sql_model.specs.Groups as spec;
 ghost use Rattle.op_aggregate.specs.Grouping as grouping;
 
 use crate::spelling::put_spelling;

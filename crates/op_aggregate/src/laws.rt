@@ -1,8 +1,8 @@
 ghost use Rattle.std.specs.Prelude.{◌≡◌, ℕ, ◌&&◌, List, length};
 ghost use Rattle.std.specs.List.{flat_map, list_all};
 ghost use Rattle.lake_values.specs.declared.values.Value.{Value as Member};
-ghost use Rattle.lake_model.specs.declared.bound.BoundAgg.{BoundAgg as Aggregate};
-ghost use Rattle.lake_model.specs.Groups.{groups, groups_fit};
+ghost use Rattle.sql_model.specs.declared.bound.BoundAgg.{BoundAgg as Aggregate};
+ghost use Rattle.sql_model.specs.Groups.{groups, groups_fit};
 ghost use Rattle.op_aggregate.specs.Fits.{arguments_fit, finals_fit};
 ghost use Rattle.op_aggregate.specs.Partials.{partial_rows, finished_rows};
 

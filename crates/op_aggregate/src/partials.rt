@@ -7,17 +7,18 @@ ghost use Rattle.lake_values.specs.Lending.{owned, IsShort};
 ghost use Rattle.lake_values.specs.declared.values.Value.TheVariants as member;
 ghost use Rattle.row_evaluation.specs.Aggregates.{totalled, IsShortTotal};
 ghost use Rattle.row_evaluation.specs.declared.rows.EvaluationFault.TheVariants as fault;
-ghost use Rattle.op_rows.specs.declared.faults.OpFault.TheVariants as op;
+ghost use Rattle.row_evaluation.specs.declared.faults.OpFault.TheVariants as op;
 ghost use Rattle.op_aggregate.specs.Fits.{part_fits, arguments_fit};
 ghost use Rattle.op_aggregate.specs.Grouping.{first_key as key_of_first};
 ghost use Rattle.op_aggregate.specs.Partials as spec;
 
 use crate::groups::{first_key, grouped};
-use lake_model::BoundAgg;
 use lake_values::{NoMemory, Row, Value, ValueRef};
-use op_rows::{OpFault, rows_of};
-use row_evaluation::{Cells, EvaluationFault, Total, aggregate, push_value, total_of};
+use row_evaluation::{
+    Cells, EvaluationFault, OpFault, Total, aggregate, push_value, rows_of, total_of,
+};
 use row_packet::{Packet, PacketView};
+use sql_model::BoundAgg;
 use std::alloc::Global;
 
 /// For each group of the rows, in the order of their first rows, its key and what is kept of its aggregates: of a SUM

@@ -4,7 +4,7 @@ use Rattle.std.specs.Prelude.{Option, None, Some}
 use Rattle.std.proofs.lemmas.List.Elements.{All-take}
 use Rattle.std.proofs.lemmas.List.Sorted.{All-permutation}
 use Rattle.lake_values.specs.declared.values.Value.{Value}
-use Rattle.lake_model.specs.Query.{limited}
+use Rattle.sql_model.specs.Query.{limited}
 use Rattle.row_packet.specs.Packets.{HaveWidth}
 
 -- rows in another order, cut off at a limit, have the width still

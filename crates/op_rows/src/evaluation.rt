@@ -1,14 +1,13 @@
 ghost use Rattle.std.specs.Prelude.{◌≡◌, ◌<◌, true, false, length, IfOk, OnErr, IsErrOf};
-ghost use Rattle.lake_model.specs.Evaluation as spec;
+ghost use Rattle.sql_model.specs.Evaluation as spec;
 ghost use Rattle.row_packet.specs.Packets.{row_at};
-ghost use Rattle.op_rows.specs.declared.faults.OpFault.TheVariants as fault;
+ghost use Rattle.row_evaluation.specs.declared.faults.OpFault.TheVariants as fault;
 
-use crate::faults::OpFault;
-use crate::packet_rows::PacketRow;
-use lake_model::BoundExpr;
 use lake_values::Value;
 use row_evaluation as evaluation;
+use row_evaluation::{OpFault, PacketRow};
 use row_packet::PacketView;
+use sql_model::BoundExpr;
 use std::alloc::Global;
 
 /// The value of an expression on a row of a packet; rows are counted from 0. A condition has a truth and no value: for

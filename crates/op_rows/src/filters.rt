@@ -1,14 +1,12 @@
 ghost use Rattle.std.specs.Prelude.{◌≡◌, true, false, filter, IfOk, IsErrOf};
 ghost use Rattle.std.specs.List.{list_all};
-ghost use Rattle.lake_model.specs.Writing.{is_matched, condition_fits};
+ghost use Rattle.sql_model.specs.Writing.{is_matched, condition_fits};
 ghost use Rattle.row_evaluation.specs.Conditions.{AreGuards};
-ghost use Rattle.op_rows.specs.declared.faults.OpFault.TheVariants as fault;
+ghost use Rattle.row_evaluation.specs.declared.faults.OpFault.TheVariants as fault;
 
-use crate::faults::OpFault;
-use crate::packet_rows::PacketRow;
-use lake_model::BoundExpr;
-use row_evaluation::is_matched;
+use row_evaluation::{OpFault, PacketRow, is_matched};
 use row_packet::{Packet, PacketView};
+use sql_model::BoundExpr;
 use std::alloc::Global;
 
 /// The rows on which all guards and then all computed conditions are true, in their order. The computed ones are

@@ -1,19 +1,18 @@
 //! The operators that go row by row over a packet: evaluation, filter, projection, and order with a limit.
+//!
+//! What the clauses say: `filter` answers exactly the rows on which guards and computed conditions
+//! are true, `project` exactly the row of what the items are on each, `top` exactly the rows in
+//! order up to the limit (`rows`), and `eval` and `holds` an expression and a condition on one row
+//! (`value`). Arith is answered exactly where arithmetic leaves 64 bits (`fits`, `arithmetic`).
 #![tactic(auto)]
 
 mod evaluation;
-mod faults;
 mod filters;
 mod orders;
-mod packet_rows;
 mod projections;
 
 pub use evaluation::{eval, holds};
-pub use faults::OpFault;
 pub use filters::filter;
 pub use orders::top;
-pub use packet_rows::{PacketRow, put_rows, rows_of};
 pub use projections::project;
-
-#[cfg(test)]
-mod tests;
+pub use row_evaluation::OpFault;

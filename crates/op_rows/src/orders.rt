@@ -1,13 +1,12 @@
 ghost use Rattle.std.specs.Prelude.{◌≡◌, IfOk, IsPermutation};
-ghost use Rattle.lake_model.specs.Listing.{ordered};
-ghost use Rattle.lake_model.specs.Query.{order_cmp, limited};
+ghost use Rattle.sql_model.specs.Listing.{ordered};
+ghost use Rattle.sql_model.specs.Query.{order_cmp, limited};
 ghost use Rattle.row_packet.specs.Packets.{HaveWidth};
 
-use crate::packet_rows::{PacketRow, rows_of};
-use lake_model::Key;
 use lake_values::NoMemory;
-use row_evaluation::compare_by_keys;
+use row_evaluation::{PacketRow, compare_by_keys, rows_of};
 use row_packet::{Packet, PacketView};
+use sql_model::Key;
 use std::alloc::Global;
 use std::cmp::Ordering;
 

@@ -1,13 +1,11 @@
 ghost use Rattle.std.specs.Prelude.{◌≡◌, ◌<◌, ◌^◌, true, false, map, length, IfOk, IsErrOf};
 ghost use Rattle.std.specs.List.{list_all};
-ghost use Rattle.lake_model.specs.Evaluation.{all_fit, evaluated};
-ghost use Rattle.op_rows.specs.declared.faults.OpFault.TheVariants as fault;
+ghost use Rattle.sql_model.specs.Evaluation.{all_fit, evaluated};
+ghost use Rattle.row_evaluation.specs.declared.faults.OpFault.TheVariants as fault;
 
-use crate::faults::OpFault;
-use crate::packet_rows::PacketRow;
-use lake_model::BoundExpr;
-use row_evaluation::evaluated;
+use row_evaluation::{OpFault, PacketRow, evaluated};
 use row_packet::{Packet, PacketView};
+use sql_model::BoundExpr;
 use std::alloc::Global;
 
 /// For each row, in their order, the row of what the items are on it.

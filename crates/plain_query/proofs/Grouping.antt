@@ -7,9 +7,9 @@ use Rattle.std.proofs.lemmas.Cmp.{tied_itself}
 use Rattle.std.proofs.lemmas.List.Folds.{list_all-map}
 use Rattle.lake_values.specs.declared.values.Value.{Value}
 use Rattle.lake_values.specs.Order.{row_cmp, row_cmp_total, row_cmp_tells}
-use Rattle.lake_model.specs.declared.bound.BoundAgg.{BoundAgg}
-use Rattle.lake_model.specs.BoundForms.{is_empty}
-use Rattle.lake_model.specs.Groups.{aggregate_fits, same_row, distinct, key_of, group_keys, members, group_row, groups, groups_fit}
+use Rattle.sql_model.specs.declared.bound.BoundAgg.{BoundAgg}
+use Rattle.sql_model.specs.BoundForms.{is_empty}
+use Rattle.sql_model.specs.Groups.{aggregate_fits, same_row, distinct, key_of, group_keys, members, group_row, groups, groups_fit}
 use Rattle.plain_query.specs.Keys.{differ_in}
 use Rattle.row_evaluation.proofs.Filters.{filter_keep, filter_skip, filters_commute, filter_within, map_where, filter_of_map}
 

@@ -1,11 +1,11 @@
 -- The answer, made over rows of the groups or items in any order.
 use Rattle.std.proofs.Common.{◌≡◌, List, map, ap, ◌∙◌}
 use Rattle.lake_values.specs.declared.values.Value.{Value}
-use Rattle.lake_model.specs.declared.bound.Query.{Query}
-use Rattle.lake_model.specs.Listing.{ordered, SameBag}
-use Rattle.lake_model.specs.Query.{kept, shown, outputs, order_cmp, limited, answer}
-use Rattle.lake_model.proofs.BagLaw.{order_total, order_tells}
-use Rattle.lake_model.proofs.Bags.{same_ordered, same_map}
+use Rattle.sql_model.specs.declared.bound.Query.{Query}
+use Rattle.sql_model.specs.Listing.{ordered, SameBag}
+use Rattle.sql_model.specs.Query.{kept, shown, outputs, order_cmp, limited, answer}
+use Rattle.sql_model.proofs.BagLaw.{order_total, order_tells}
+use Rattle.sql_model.proofs.Bags.{same_ordered, same_map}
 
 pub answer_of_shown :
     (q : Query) (rows left made : List (List Value)) → left ≡ kept q rows → SameBag made (shown q left) → limited q.limit (ordered (order_cmp q.order) (map (outputs q) made)) ≡ answer q rows

@@ -5,25 +5,25 @@ use Rattle.std.proofs.lemmas.List.Folds.{list_all-append}
 use Rattle.std.specs.Cmp.{first_so, second_so}
 use Rattle.std.specs.Cmp.Derive.{both_true}
 use Rattle.std.specs.List.{list_all, filter_map, cons_option}
-use Rattle.lake_model.specs.declared.bound.Bound.{Bound}
-use Rattle.lake_model.specs.declared.bound.BoundExpr.{BoundExpr, fold-roll-BoundExpr}
-use Rattle.lake_model.specs.declared.bound.BoundExpr.TheOpen.{BoundExpr-F}
-use Rattle.lake_model.specs.declared.bound.BoundExpr.TheVariants.{Column, rolls-Column}
-use Rattle.lake_model.specs.declared.expressions.CmpOp.TheVariants.{Eq}
-use Rattle.lake_model.specs.declared.expressions.Expr.{Expr}
-use Rattle.lake_model.specs.declared.expressions.Ref.{Ref}
-use Rattle.lake_model.specs.declared.replies.Refusal.{Refusal}
-use Rattle.lake_model.specs.declared.scopes.Heading.{Heading}
-use Rattle.lake_model.specs.declared.statements.Select.{Select as Written}
-use Rattle.lake_model.specs.declared.statements.SourceRef.{SourceRef}
-use Rattle.lake_model.specs.declared.statements.Statement.{Statement}
-use Rattle.lake_model.specs.declared.statements.Statement.TheVariants.{Select, Update, Delete}
-use Rattle.lake_model.specs.Binding.{refused, answered, IsBound}
-use Rattle.lake_model.specs.BoundForms.{has_arithmetic, arithmetic_step, is_within, conjuncts, guards_of, equality, guard_by, guard_of, own_guards, guards_left, join_guards, stage_guards, bound_form}
-use Rattle.lake_model.specs.Form.{is_between, is_filter, is_item, is_source, is_on, is_key, are_names, has_item_count, groups_one_table, has_bounds, is_select, IsInForm}
-use Rattle.lake_model.specs.Scopes.{TableSchemas, source_headings, scope_of, table_scope, column_of}
+use Rattle.sql_model.specs.declared.bound.Bound.{Bound}
+use Rattle.sql_model.specs.declared.bound.BoundExpr.{BoundExpr, fold-roll-BoundExpr}
+use Rattle.sql_model.specs.declared.bound.BoundExpr.TheOpen.{BoundExpr-F}
+use Rattle.sql_model.specs.declared.bound.BoundExpr.TheVariants.{Column, rolls-Column}
+use Rattle.sql_model.specs.declared.expressions.CmpOp.TheVariants.{Eq}
+use Rattle.sql_model.specs.declared.expressions.Expr.{Expr}
+use Rattle.sql_model.specs.declared.expressions.Ref.{Ref}
+use Rattle.sql_model.specs.declared.replies.Refusal.{Refusal}
+use Rattle.sql_model.specs.declared.scopes.Heading.{Heading}
+use Rattle.sql_model.specs.declared.statements.Select.{Select as Written}
+use Rattle.sql_model.specs.declared.statements.SourceRef.{SourceRef}
+use Rattle.sql_model.specs.declared.statements.Statement.{Statement}
+use Rattle.sql_model.specs.declared.statements.Statement.TheVariants.{Select, Update, Delete}
+use Rattle.sql_model.specs.Binding.{refused, answered, IsBound}
+use Rattle.sql_model.specs.BoundForms.{has_arithmetic, arithmetic_step, is_within, conjuncts, guards_of, equality, guard_by, guard_of, own_guards, guards_left, join_guards, stage_guards, bound_form}
+use Rattle.sql_model.specs.Form.{is_between, is_filter, is_item, is_source, is_on, is_key, are_names, has_item_count, groups_one_table, has_bounds, is_select, IsInForm}
+use Rattle.sql_model.specs.Scopes.{TableSchemas, source_headings, scope_of, table_scope, column_of}
 use Rattle.row_evaluation.specs.Conditions.{is_guard, AreGuards}
-use Rattle.plain_query.specs.Databases.{AreAllGuards, IsReady}
+use Rattle.plain_query.specs.Databases.{AreAllGuards, IsEvaluable}
 use Rattle.row_evaluation.proofs.Parts.{compare_arithmetic}
 
 -- which members pass among those that a filter keeps
@@ -121,7 +121,7 @@ source_count q h = between 1 4 (length q.sources) (counted bounded)
 
 -- a statement that no refusal holds of is bound to its bound form, which is ready
 
-form_ready : (x : Statement) (schemas : TableSchemas) → IsInForm x → IsReady (bound_form schemas x)
+form_ready : (x : Statement) (schemas : TableSchemas) → IsInForm x → IsEvaluable (bound_form schemas x)
 form_ready (Select q) schemas in_form =
     let (least, most) = source_count q in_form in
     let same = length-map q.sources (λ (s : SourceRef). s.table) in
@@ -134,6 +134,6 @@ answered_form : (cause : Option Refusal) (form answer : Bound) → answered caus
 answered_form None form answer e = cc
 answered_form (Some refusal) form answer e = absurd cc
 
-pub bound_ready : (x : Statement) (schemas : TableSchemas) (form : Bound) → IsInForm x → IsBound x schemas form → IsReady form
+pub bound_ready : (x : Statement) (schemas : TableSchemas) (form : Bound) → IsInForm x → IsBound x schemas form → IsEvaluable form
 bound_ready x schemas form in_form is_bound =
-    subst (λ (f : Bound). IsReady f) (answered_form (refused schemas x) (bound_form schemas x) form is_bound) (form_ready x schemas in_form)
+    subst (λ (f : Bound). IsEvaluable f) (answered_form (refused schemas x) (bound_form schemas x) form is_bound) (form_ready x schemas in_form)

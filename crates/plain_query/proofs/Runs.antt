@@ -9,10 +9,10 @@ use Rattle.std.specs.declared.cmp.Ordering.TheVariants.{Less, Equal, Greater}
 use Rattle.std.proofs.lemmas.Cmp.{tied_itself}
 use Rattle.std.proofs.lemmas.List.{take-map, drop-map}
 use Rattle.lake_values.specs.Order.{row_cmp, row_cmp_total}
-use Rattle.lake_model.specs.declared.bound.BoundAgg.{BoundAgg}
-use Rattle.lake_model.specs.BoundForms.{is_empty}
-use Rattle.lake_model.specs.Groups.{aggregate_fits, key_of, group_row, groups, groups_fit}
-use Rattle.lake_model.proofs.Sorting.{UpTo, Rises, all_more, rises_from_sorted}
+use Rattle.sql_model.specs.declared.bound.BoundAgg.{BoundAgg}
+use Rattle.sql_model.specs.BoundForms.{is_empty}
+use Rattle.sql_model.specs.Groups.{aggregate_fits, key_of, group_row, groups, groups_fit}
+use Rattle.sql_model.proofs.Sorting.{UpTo, Rises, all_more, rises_from_sorted}
 use Rattle.plain_query.specs.Keys.{differ_in}
 use Rattle.row_evaluation.proofs.Filters.{filter_none, filter_all}
 use Rattle.plain_query.proofs.Grouping.{Row, alike_in, same_itself, groups_step, groups_fit_step}

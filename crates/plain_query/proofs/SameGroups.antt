@@ -9,11 +9,11 @@ use Rattle.std.proofs.lemmas.Fn.{always_returns_same}
 use Rattle.std.proofs.lemmas.List.Sorted.{ranks_by, IsPermutation-map}
 use denote.Param.Members.{Mut}
 use Rattle.lake_values.specs.Order.{row_cmp, row_cmp_total}
-use Rattle.lake_model.specs.declared.bound.BoundAgg.{BoundAgg}
-use Rattle.lake_model.specs.Groups.{groups}
-use Rattle.lake_model.specs.Listing.{weight, SameBag}
-use Rattle.lake_model.proofs.Sorting.{same_moved}
-use Rattle.lake_model.proofs.GroupBags.{same_groups}
+use Rattle.sql_model.specs.declared.bound.BoundAgg.{BoundAgg}
+use Rattle.sql_model.specs.Groups.{groups}
+use Rattle.sql_model.specs.Listing.{weight, SameBag}
+use Rattle.sql_model.proofs.Sorting.{same_moved}
+use Rattle.sql_model.proofs.GroupBags.{same_groups}
 use Rattle.plain_query.proofs.Grouping.{Row}
 
 module _ {X : Type 0} (key : X → Row) where

@@ -3,12 +3,12 @@ use Rattle.std.specs.Prelude.{◌≡◌, ◌≤◌, ℕ, true, false, List, Resu
 use Rattle.std.specs.Borrow.{Bor}
 use Rattle.std.specs.List.{list_all}
 use Rattle.lake_values.specs.declared.values.Value.{Value}
-use Rattle.lake_model.specs.declared.bound.Bound.{Bound}
-use Rattle.lake_model.specs.declared.bound.Bound.TheVariants.{Select, Update, Delete}
-use Rattle.lake_model.specs.declared.bound.BoundExpr.{BoundExpr}
-use Rattle.lake_model.specs.declared.bound.Query.{Query}
-use Rattle.lake_model.specs.declared.replies.Refusal.{Refusal}
-use Rattle.lake_model.specs.Query.{Database, stage, too_many, plain}
+use Rattle.sql_model.specs.declared.bound.Bound.{Bound}
+use Rattle.sql_model.specs.declared.bound.Bound.TheVariants.{Select, Insert, Update, Delete, Named}
+use Rattle.sql_model.specs.declared.bound.BoundExpr.{BoundExpr}
+use Rattle.sql_model.specs.declared.bound.Query.{Query}
+use Rattle.sql_model.specs.declared.replies.Refusal.{Refusal}
+use Rattle.sql_model.specs.Query.{Database, stage, too_many, plain}
 use Rattle.row_evaluation.specs.Conditions.{is_guard, AreGuards}
 
 -- no guard of any stage has + - *
@@ -33,8 +33,9 @@ abbrev pub Answers : {R : Type 0} → (R → List Value) → Query → List (Bor
 Answers cells q tables answer = (db : Database) → IsDatabaseOf cells q tables db → plain q db ≡ answer
 
 -- what holds of the bound form of a statement in form: guards have no + - *, and a query has 1 to 4 tables
-abbrev pub IsReady : Bound → Type 0
-IsReady (Select q) = (1 ≤ length q.tables) × (length q.tables ≤ 4) × AreAllGuards q.guards
-IsReady (Update table guards computed items column) = AreGuards guards
-IsReady (Delete table guards computed) = AreGuards guards
-IsReady form = Unit {0}
+abbrev pub IsEvaluable : Bound → Type 0
+IsEvaluable (Select q) = (1 ≤ length q.tables) × (length q.tables ≤ 4) × AreAllGuards q.guards
+IsEvaluable (Update table guards computed items column) = AreGuards guards
+IsEvaluable (Delete table guards computed) = AreGuards guards
+IsEvaluable (Insert table rows column) = Unit {0}
+IsEvaluable (Named table) = Unit {0}

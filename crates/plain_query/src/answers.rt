@@ -1,8 +1,9 @@
 ghost use Rattle.std.specs.Prelude.{◌≡◌, true, false, map, filter, IfOk, IsErrOf};
 ghost use Rattle.std.specs.List.{list_all};
-ghost use Rattle.lake_model.specs.Evaluation as spec;
-ghost use Rattle.lake_model.specs.Listing.{SameBag};
-ghost use Rattle.lake_model.specs.Query.{shown, shown_fits, answer, answer_fits};
+ghost use Rattle.lake_values.specs.Rows as row_spec;
+ghost use Rattle.sql_model.specs.Evaluation as spec;
+ghost use Rattle.sql_model.specs.Listing.{SameBag};
+ghost use Rattle.sql_model.specs.Query.{shown, shown_fits, answer, answer_fits};
 ghost use Rattle.row_evaluation.specs.declared.rows.EvaluationFault.TheVariants as fault;
 ghost use Rattle.plain_query.specs.declared.queries.QueryFault.TheVariants as query_fault;
 ghost use Rattle.plain_query.specs.Lists.{all_lent};
@@ -10,9 +11,9 @@ ghost use Rattle.plain_query.specs.Lists.{all_lent};
 use crate::groups::groups;
 use crate::orders::ordered_rows;
 use crate::queries::QueryFault;
-use lake_model::{BoundExpr, Query};
 use lake_values::{NoMemory, Row, Rows};
 use row_evaluation::{Cells, EvaluationFault, evaluated, meets, push_value, value_at};
+use sql_model::{BoundExpr, Query};
 use std::alloc::Global;
 
 /// The rows on which all conditions are true. Each condition is evaluated on each row.
@@ -66,7 +67,7 @@ fn show<C: Cells>(alloc: Global, query: &Query, rows: &[C]) -> Result<Vec<Row>, 
 
 /// The columns of a row that stand at these places.
 fn columns_of(alloc: Global, places: &[u32], row: &Row) -> Result<Row, NoMemory>
-    ensures { IfOk result (λ made. made ≡ map (spec.value_at row.now) places.now) }
+    ensures { IfOk result (λ made. made ≡ map (row_spec.value_at row.now) places.now) }
 {
     let mut values = Vec::with_capacity(alloc, places.len())?;
     for place in places {
@@ -77,7 +78,7 @@ fn columns_of(alloc: Global, places: &[u32], row: &Row) -> Result<Row, NoMemory>
 
 /// The columns of the answer, for each row that is shown.
 fn outputs(alloc: Global, places: &[u32], rows: &[Row]) -> Result<Vec<Row>, NoMemory>
-    ensures { IfOk result (λ made. made.items ≡ map (λ row. map (spec.value_at row) places.now) rows.now) }
+    ensures { IfOk result (λ made. made.items ≡ map (λ row. map (row_spec.value_at row) places.now) rows.now) }
 {
     let mut made = Vec::with_capacity(alloc, rows.len())?;
     for row in rows {

@@ -2,14 +2,14 @@ ghost use Rattle.std.specs.Prelude.{◌≡◌, ◌<◌, ◌≤◌, true, false, 
 ghost use Rattle.std.specs.List.{list_all, position_or_len};
 ghost use Rattle.std.specs.List.Sorted.{IsSortedByKey};
 ghost use Rattle.lake_values.specs.Order.{row_cmp};
-ghost use Rattle.lake_model.specs.Groups as spec;
-ghost use Rattle.lake_model.specs.Listing.{SameBag};
+ghost use Rattle.sql_model.specs.Groups as spec;
+ghost use Rattle.sql_model.specs.Listing.{SameBag};
 ghost use Rattle.row_evaluation.specs.declared.rows.EvaluationFault.TheVariants as fault;
 ghost use Rattle.plain_query.specs.Keys.{differ_in};
 
-use lake_model::BoundAgg;
 use lake_values::{Row, Value, compare_lent};
 use row_evaluation::{Cells, EvaluationFault, aggregate, key_of, references, value_at};
+use sql_model::BoundAgg;
 use std::alloc::Global;
 use std::cmp::Ordering;
 

@@ -1,10 +1,10 @@
 ghost use Rattle.std.specs.Prelude.{◌≡◌, IfOk, OnOk};
-ghost use Rattle.lake_model.specs.Listing.{ordered};
-ghost use Rattle.lake_model.specs.Query.{order_cmp, limited};
+ghost use Rattle.sql_model.specs.Listing.{ordered};
+ghost use Rattle.sql_model.specs.Query.{order_cmp, limited};
 
-use lake_model::Key;
 use lake_values::{NoMemory, Row, Rows};
 use row_evaluation::compare_by_keys;
+use sql_model::Key;
 use std::cmp::Ordering;
 
 /// The order of two rows by the keys, and then by the whole row.

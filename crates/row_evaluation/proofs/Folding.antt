@@ -3,10 +3,10 @@ use Rattle.std.proofs.Common.{◌≡◌, ℕ, ◌+◌, ◌<◌, Bool, true, fals
 use Rattle.std.proofs.lemmas.List.{at_drop_more}
 use Rattle.lake_values.specs.declared.values.Value.{Value}
 use Rattle.lake_values.specs.declared.values.Value.TheVariants.{Null, Int, Text}
-use Rattle.lake_model.specs.declared.bound.BoundExpr.{BoundExpr}
-use Rattle.lake_model.specs.Evaluation.{eval, fits, is_null}
-use Rattle.lake_model.specs.Groups.{joined_by, summary, values_on, argument_fits}
-use Rattle.lake_model.proofs.Summaries.{Swaps, lesser_swaps, greater_swaps}
+use Rattle.sql_model.specs.declared.bound.BoundExpr.{BoundExpr}
+use Rattle.sql_model.specs.Evaluation.{eval, fits, is_null}
+use Rattle.sql_model.specs.Groups.{joined_by, summary, values_on, argument_fits}
+use Rattle.sql_model.proofs.Summaries.{Swaps, lesser_swaps, greater_swaps}
 use Rattle.row_evaluation.specs.declared.aggregates.Extreme.{Extreme}
 use Rattle.row_evaluation.specs.declared.aggregates.Extreme.TheVariants.{Least, Greatest}
 use Rattle.row_evaluation.specs.Aggregates.{counted, kept_by}

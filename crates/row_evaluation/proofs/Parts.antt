@@ -1,10 +1,10 @@
 -- Arithmetic stands in an expression where it stands in its second part.
 use Rattle.std.proofs.Common.{◌≡◌, Bool, true, false, refl, sym, ap, ◌∙◌}
 use Rattle.std.specs.Prelude.{◌||◌, Result, Ok, Err, OnErr}
-use Rattle.lake_model.specs.declared.bound.BoundExpr.{BoundExpr, fold-roll-BoundExpr}
-use Rattle.lake_model.specs.declared.bound.BoundExpr.TheVariants.{Compare, And, Or, rolls-Compare, rolls-And, rolls-Or}
-use Rattle.lake_model.specs.declared.expressions.CmpOp.{CmpOp}
-use Rattle.lake_model.specs.BoundForms.{has_arithmetic, arithmetic_step}
+use Rattle.sql_model.specs.declared.bound.BoundExpr.{BoundExpr, fold-roll-BoundExpr}
+use Rattle.sql_model.specs.declared.bound.BoundExpr.TheVariants.{Compare, And, Or, rolls-Compare, rolls-And, rolls-Or}
+use Rattle.sql_model.specs.declared.expressions.CmpOp.{CmpOp}
+use Rattle.sql_model.specs.BoundForms.{has_arithmetic, arithmetic_step}
 
 or_right : (a b : Bool) → b ≡ true → a || b ≡ true
 or_right false b holds = holds

@@ -2,8 +2,8 @@
 use Rattle.std.specs.Prelude.{ℕ, not, List, filter, length}
 use Rattle.lake_values.specs.declared.values.Value.{Value}
 use Rattle.lake_values.specs.declared.values.Value.TheVariants as value
-use Rattle.lake_model.specs.Evaluation.{is_null}
-use Rattle.lake_model.specs.Groups.{lesser, greater}
+use Rattle.sql_model.specs.Evaluation.{is_null}
+use Rattle.sql_model.specs.Groups.{lesser, greater}
 use Rattle.lake_values.specs.Lending.{owned, IsShort}
 use Rattle.row_evaluation.specs.declared.aggregates.Total.{Total}
 use Rattle.row_evaluation.specs.declared.aggregates.Total.TheVariants.{AtMostOne, Several}

@@ -1,7 +1,7 @@
 ghost use Rattle.std.specs.Prelude.{◌≡◌, ◌+ℤ◌, ◌≤ℤ◌, pos, ◌-◌, ◌*◌, ◌^◌, true, false, length, map, IfOk, OnErr, IsErrOf};
 ghost use Rattle.lake_values.specs.Order.{number_of};
-ghost use Rattle.lake_model.specs.Evaluation.{is_64_bits};
-ghost use Rattle.lake_model.specs.Groups as spec;
+ghost use Rattle.sql_model.specs.Evaluation.{is_64_bits};
+ghost use Rattle.sql_model.specs.Groups as spec;
 ghost use Rattle.row_evaluation.specs.declared.rows.EvaluationFault.TheVariants as fault;
 ghost use Rattle.lake_values.specs.Lending.{owned, IsShort};
 ghost use Rattle.row_evaluation.specs.Aggregates.{counted, kept_by, totalled, IsShortTotal};
@@ -9,8 +9,8 @@ ghost use Rattle.row_evaluation.specs.Aggregates.{counted, kept_by, totalled, Is
 use crate::cells::{Cells, is_null};
 use crate::evaluation::{Overflow, look};
 use crate::rows::EvaluationFault;
-use lake_model::{BoundAgg, BoundExpr};
 use lake_values::{Value, ValueRef, compare_lent};
+use sql_model::{BoundAgg, BoundExpr};
 use std::alloc::Global;
 
 /// What an aggregate is over the rows of a group. Its argument is evaluated on each row.

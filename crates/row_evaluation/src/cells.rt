@@ -1,12 +1,13 @@
 ghost use Rattle.std.specs.Prelude.{◌≡◌};
 ghost use Rattle.lake_values.specs.Lending.{owned, IsShort};
-ghost use Rattle.lake_model.specs.Evaluation.{is_null, value_at};
+ghost use Rattle.sql_model.specs.Evaluation.{is_null};
+ghost use Rattle.lake_values.specs.Rows.{value_at};
 
 use lake_values::{Row, ValueRef};
 
 /// What stands at a place of a row, or how far the place is behind the row's last column.
 #[derive(Clone, Copy, Debug)]
-pub enum Standing<'a> {
+pub enum Lookup<'a> {
     At(ValueRef<'a>),
     Behind(usize),
 }
@@ -15,13 +16,13 @@ pub enum Standing<'a> {
 pub trait Cells {
     ghost use Rattle.std.specs.Prelude.{List};
     ghost use Rattle.lake_values.specs.declared.values.Value.{Value as Member};
-    ghost use Rattle.row_evaluation.specs.Lending.{IsStanding};
+    ghost use Rattle.row_evaluation.specs.Lending.{IsLookup};
 
     ghost cells: { Self → List Member };
 
     /// What stands at a place.
-    fn find(&self, place: usize) -> Standing<'_>
-        ensures { IsStanding (cells self.now) place result };
+    fn find(&self, place: usize) -> Lookup<'_>
+        ensures { IsLookup (cells self.now) place result };
 }
 
 /// The value in a column; NULL where the row has no such column.
@@ -30,8 +31,8 @@ pub fn value_at<C: Cells>(cells: &C, column: u32) -> ValueRef<'_>
     ensures short { IsShort result }
 {
     match cells.find(column as usize) {
-        Standing::At(value) => value,
-        Standing::Behind(_) => ValueRef::Null,
+        Lookup::At(value) => value,
+        Lookup::Behind(_) => ValueRef::Null,
     }
 }
 
@@ -44,11 +45,11 @@ pub fn is_null(value: ValueRef<'_>) -> bool
 impl Cells for Row {
     ghost cells = { λ row. row };
 
-    fn find(&self, place: usize) -> Standing<'_> {
+    fn find(&self, place: usize) -> Lookup<'_> {
         let values = self.values();
         match values.get(place) {
-            Some(value) => Standing::At(value.lend()),
-            None => Standing::Behind(place - values.len()),
+            Some(value) => Lookup::At(value.lend()),
+            None => Lookup::Behind(place - values.len()),
         }
     }
 }
@@ -56,7 +57,7 @@ impl Cells for Row {
 impl<R: Cells> Cells for &R {
     ghost cells = { λ row. R.cells row.now };
 
-    fn find(&self, place: usize) -> Standing<'_> {
+    fn find(&self, place: usize) -> Lookup<'_> {
         (**self).find(place)
     }
 }
@@ -73,10 +74,10 @@ impl<L: Cells, R: Cells> Cells for Beside<'_, L, R> {
 
     ghost cells = { λ b. L.cells b.left.now ++ R.cells b.right.now };
 
-    fn find(&self, place: usize) -> Standing<'_> {
+    fn find(&self, place: usize) -> Lookup<'_> {
         match self.left.find(place) {
-            Standing::At(value) => Standing::At(value),
-            Standing::Behind(rest) => self.right.find(rest),
+            Lookup::At(value) => Lookup::At(value),
+            Lookup::Behind(rest) => self.right.find(rest),
         }
     }
 }

@@ -1,13 +1,13 @@
 ghost use Rattle.std.specs.Prelude.{◌≡◌, true, false, IfOk, OnErr};
 ghost use Rattle.std.specs.List.{list_all};
-ghost use Rattle.lake_model.specs.BoundForms.{has_arithmetic};
-ghost use Rattle.lake_model.specs.Evaluation as spec;
-ghost use Rattle.lake_model.specs.Writing.{is_matched, condition_fits};
+ghost use Rattle.sql_model.specs.BoundForms.{has_arithmetic};
+ghost use Rattle.sql_model.specs.Evaluation as spec;
+ghost use Rattle.sql_model.specs.Writing.{is_matched, condition_fits};
 ghost use Rattle.row_evaluation.specs.Conditions.{is_guard, AreGuards};
 
 use crate::cells::Cells;
 use crate::evaluation::{Overflow, look};
-use lake_model::BoundExpr;
+use sql_model::BoundExpr;
 
 /// Whether + - * stands in the expression.
 fn has_arithmetic(expression: &BoundExpr) -> bool

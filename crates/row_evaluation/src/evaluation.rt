@@ -1,13 +1,13 @@
 ghost use Rattle.std.specs.Prelude.{◌≡◌, true, false, None, IfOk, OnErr, SomeIff, IsTrue};
 ghost use Rattle.lake_values.specs.Lending.{owned, IsShort};
 ghost use Rattle.lake_values.specs.declared.values.ValueRef.TheVariants as lent;
-ghost use Rattle.lake_model.specs.BoundForms.{has_arithmetic};
-ghost use Rattle.lake_model.specs.Evaluation as spec;
+ghost use Rattle.sql_model.specs.BoundForms.{has_arithmetic};
+ghost use Rattle.sql_model.specs.Evaluation as spec;
 ghost use Rattle.row_evaluation.specs.Lending.{IsSeen};
 
 use crate::cells::{Cells, is_null, value_at};
-use lake_model::{ArithOp, BoundExpr, CmpOp};
 use lake_values::{ValueRef, compare_lent};
+use sql_model::{ArithOp, BoundExpr, CmpOp};
 use std::cmp::Ordering;
 
 /// What an expression is on a row: a value, or whether it is true, where nothing stands for unknown.

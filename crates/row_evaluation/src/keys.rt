@@ -1,5 +1,5 @@
 ghost use Rattle.std.specs.Prelude.{◌≡◌, map, IfOk};
-ghost use Rattle.lake_model.specs.Groups as spec;
+ghost use Rattle.sql_model.specs.Groups as spec;
 
 use crate::cells::{Cells, value_at};
 use crate::rows::push_value;

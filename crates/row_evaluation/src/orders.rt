@@ -1,11 +1,11 @@
 ghost use Rattle.std.specs.Prelude.{◌≡◌};
 ghost use Rattle.std.specs.Ordering.{ordering_then};
 ghost use Rattle.lake_values.specs.Order.{row_cmp};
-ghost use Rattle.lake_model.specs.Query.{key_cmp, order_cmp};
+ghost use Rattle.sql_model.specs.Query.{key_cmp, order_cmp};
 
 use crate::cells::{Cells, value_at};
-use lake_model::Key;
 use lake_values::compare_lent;
+use sql_model::Key;
 use std::cmp::Ordering;
 
 /// The order of two rows by one key.

@@ -1,12 +1,12 @@
 ghost use Rattle.std.specs.Prelude.{◌≡◌, true, false, [], ◌∷◌, ◌++◌, IfOk, OnOk, IsErrOf};
 ghost use Rattle.lake_values.specs.Lending.{owned, IsShort};
-ghost use Rattle.lake_model.specs.Evaluation as spec;
+ghost use Rattle.sql_model.specs.Evaluation as spec;
 ghost use Rattle.row_evaluation.specs.declared.rows.EvaluationFault.TheVariants as fault;
 
 use crate::cells::Cells;
 use crate::evaluation::{Overflow, look};
-use lake_model::BoundExpr;
 use lake_values::{NoMemory, Row, Value, ValueRef};
+use sql_model::BoundExpr;
 use std::alloc::{AllocError, AllocFailed, Global};
 
 /// Why a row wasn't made.

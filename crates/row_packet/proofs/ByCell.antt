@@ -6,7 +6,8 @@ use Rattle.std.proofs.lemmas.List.Elements.{filter-append}
 use Rattle.std.proofs.lemmas.List.FromFn.{length-map-range_with_len, get_or-map-range_with_len, fill_by_all}
 use Rattle.lake_values.specs.declared.values.Value.{Value}
 use Rattle.lake_values.specs.Cells.{cell}
-use Rattle.row_packet.specs.Packets.{PacketRows, value_at, rows_of_cell, cells_of}
+use Rattle.row_packet.specs.Packets.{PacketRows, rows_of_cell, cells_of}
+use Rattle.lake_values.specs.Rows.{value_at}
 use Rattle.row_packet.proofs.Lookups.{value_at_read}
 
 -- the packet of a cell

@@ -5,7 +5,8 @@ use Rattle.std.proofs.lemmas.List.Elements.{All-get_or}
 use Rattle.std.proofs.lemmas.Option.{unwrap_or-slice_get}
 use Rattle.lake_values.specs.declared.values.Value.{Value}
 use Rattle.lake_values.specs.declared.values.Value.TheVariants.{Null}
-use Rattle.row_packet.specs.Packets.{HaveWidth, value_at}
+use Rattle.row_packet.specs.Packets.{HaveWidth}
+use Rattle.lake_values.specs.Rows.{value_at}
 
 pub value_at_read : (row : List Value) (i : ℕ) (v : Value) → i < length row → v ≡ get_or row i v → v ≡ value_at row i
 value_at_read row i v lt is = get_or_read row i v lt is Null ∙ sym (unwrap_or-slice_get row i Null)

@@ -4,6 +4,7 @@ use Rattle.std.specs.List.{flat_map, range_with_len}
 use Rattle.lake_values.specs.declared.values.Value.{Value}
 use Rattle.lake_values.specs.declared.values.Value.TheVariants.{Null}
 use Rattle.lake_values.specs.Cells.{cell}
+use Rattle.lake_values.specs.Rows.{value_at}
 
 -- the rows of a packet, and how many values each of them has
 pub record PacketRows : Type 0 where
@@ -17,10 +18,6 @@ HaveWidth width rows = All (λ row. length row ≡ width) rows
 -- a row by its place; behind the last row it has no values
 abbrev pub row_at : List (List Value) → ℕ → List Value
 row_at rows place = slice_index_or rows place []
-
--- the value in a column; a row without the column has NULL there
-abbrev pub value_at : List Value → ℕ → Value
-value_at row column = unwrap_or (slice_get row column) Null
 
 -- the rows whose value in the column has this cell, in their order
 abbrev pub rows_of_cell : ℕ → List (List Value) → ℕ → List (List Value)

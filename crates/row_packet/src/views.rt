@@ -1,6 +1,7 @@
 ghost use Rattle.std.specs.Prelude.{◌≡◌, ◌<◌, length, IfOk};
 ghost use Rattle.lake_values.specs.Lending.{owned, IsShort};
-ghost use Rattle.row_packet.specs.Packets.{HaveWidth, row_at, value_at};
+ghost use Rattle.row_packet.specs.Packets.{HaveWidth, row_at};
+ghost use Rattle.lake_values.specs.Rows.{value_at};
 
 use crate::packets::Packet;
 use lake_values::{NoMemory, Row, Value, ValueRef};

@@ -7,9 +7,9 @@ use Rattle.std.proofs.lemmas.List.Elements.{All-from_recursion}
 use Rattle.std.proofs.lemmas.Bool.{false≢true}
 use Rattle.lake_values.specs.Schemas.{AllDistinct}
 use Rattle.lake_values.specs.declared.schemas.Column.{Column}
-use Rattle.lake_model.specs.declared.replies.Refusal.{Refusal}
-use Rattle.lake_model.specs.Versions.{same_text}
-use Rattle.lake_model.specs.Mentions.{first, ambiguous_name, in_columns, refused_if}
+use Rattle.sql_model.specs.declared.replies.Refusal.{Refusal}
+use Rattle.lake_values.specs.Texts.{same_text}
+use Rattle.sql_model.specs.Mentions.{first, ambiguous_name, in_columns, refused_if}
 
 differ : (x y : List ℕ) → same_text x y ≡ false → y ≢ x
 differ x y h e = false≢true (sym h ∙ ap (same_text x) e ∙ nat_list_eq_equiv.refl x)

@@ -1,5 +1,10 @@
 pub mod Distinct
-pub mod Grouping
+pub mod KeyPlaces
+pub mod Noting
+pub mod OutputNames
 pub mod Queries
+pub mod Scoping
+pub mod SelectNames
+pub mod SetNames
 pub mod ShortTexts
-pub mod Typing
+pub mod StageGuards

@@ -3,7 +3,7 @@ use Rattle.std.proofs.Common.{◌≡◌, ℕ, ◌≤◌, ◌<◌, ◌^◌, List,
 use Rattle.std.proofs.lemmas.Bool.Decides.{nat_tests}
 use Rattle.std.proofs.lemmas.Fmt.{length-decimal-le}
 use Rattle.std.specs.Fmt.{decimal}
-use Rattle.lake_model.specs.Form.{is_name}
+use Rattle.sql_model.specs.Form.{is_name}
 
 name_short : (name : List ℕ) → IsTrue (is_name name) → length name ≤ 64
 name_short name h = grind (arith, nat_tests)

@@ -1,24 +1,15 @@
 -- What the binder's calls answer.
 use Rattle.std.specs.Prelude.{◌≡◌, Option, None, Some, Result, Ok, Err}
-use Rattle.lake_model.specs.declared.replies.Refusal.{Refusal}
-use Rattle.lake_model.specs.Scopes.{TableSchemas}
-use Rattle.lake_model.specs.Mentions.{Mention, unknown_table, unknown_column, ambiguous_name}
+use Rattle.sql_model.specs.declared.replies.Refusal.{Refusal}
 use Rattle.sql_binder.specs.declared.faults.BindFault.{BindFault}
 use Rattle.sql_binder.specs.declared.faults.BindFault.TheVariants.{Refused, NoMemory}
-use Rattle.sql_binder.specs.declared.names.NameFault.{NameFault}
-use Rattle.sql_binder.specs.declared.names.NameFault.TheVariants.{UnknownTable, UnknownColumn, Ambiguous}
 
--- A check refuses by this refusal, and is Ok where there is none; nothing is said where memory ran out.
+-- A check refuses by this refusal, and is Ok where there is none. Nothing is said where memory ran
+-- out.
 abbrev pub Judges : {X : Type 0} → Result X BindFault → Option Refusal → Type 0
 Judges (Ok x) refusal = refusal ≡ None
 Judges (Err NoMemory) refusal = Unit {0}
 Judges (Err (Refused r)) refusal = refusal ≡ Some r
-
--- what a mention is judged by, where one kind of fault is looked for
-abbrev pub judge : NameFault → TableSchemas → Mention → Option Refusal
-judge UnknownTable schemas = unknown_table schemas
-judge UnknownColumn schemas = unknown_column
-judge Ambiguous schemas = ambiguous_name
 
 -- the fact holds of the refusal that is answered
 abbrev pub IfRefused : {X : Type 0} → Result X BindFault → (Refusal → Type 0) → Type 0

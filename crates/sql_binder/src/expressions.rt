@@ -1,12 +1,12 @@
 //! Expressions with their references as places.
 
 ghost use Rattle.std.specs.Prelude.{◌≡◌, ◌≤◌, ◌++◌, length, IfOk, OnOk, not, filter};
-ghost use Rattle.lake_model.specs.BoundForms as spec;
-ghost use Rattle.lake_model.specs.Scopes.{column_of as place_of_column};
+ghost use Rattle.sql_model.specs.BoundForms as spec;
+ghost use Rattle.sql_model.specs.Scopes.{column_of as place_of_column};
 
 use crate::scopes::named;
-use lake_model::{BoundExpr, Expr, Found, Heading, Ref};
 use lake_values::NoMemory;
+use sql_model::{BoundExpr, Expr, Found, Heading, Ref};
 use sqlite_items::Boxed;
 use std::alloc::Global;
 
@@ -65,7 +65,7 @@ pub fn bound_expr(
 }
 
 /// Whether + - * stands in the expression.
-pub fn has_arithmetic(expression: &BoundExpr) -> bool
+fn has_arithmetic(expression: &BoundExpr) -> bool
     ensures { result ≡ spec.has_arithmetic expression.now }
 {
     match expression {
@@ -101,48 +101,40 @@ pub fn is_within(width: usize, expression: &BoundExpr) -> bool
     }
 }
 
-/// Puts the conjuncts of a condition at the end: the AND tree at its root is taken apart on both sides.
-fn put_conjuncts(
-    alloc: Global,
-    scope: &[Heading],
-    condition: &Expr,
-    out: &mut Vec<BoundExpr>,
-) -> Result<(), NoMemory>
-    requires { length scope.now ≤ 256 }
-    ensures { OnOk result (out.new.items ≡ out.old.items ++ (spec.placed scope.now condition.now).conjuncts) }
-{
-    match condition {
-        Expr::And(left, right) => {
-            put_conjuncts(alloc, scope, left.get(), out)?;
-            put_conjuncts(alloc, scope, right.get(), out)
-        }
-        _ => {
-            out.push(bound_expr(alloc, scope, condition)?)?;
-            Ok(())
-        }
-    }
-}
-
-fn conjuncts(
-    alloc: Global,
-    scope: &[Heading],
-    filter: &Option<Expr>,
-) -> Result<Vec<BoundExpr>, NoMemory>
-    requires { length scope.now ≤ 256 }
-    ensures { IfOk result (λ all. all.items ≡ spec.conjuncts scope.now filter.now) }
-{
-    let mut all = Vec::new(alloc);
-    if let Some(condition) = filter {
-        put_conjuncts(alloc, scope, condition, &mut all)?;
-    }
-    Ok(all)
-}
-
 /// The conjuncts of a WHERE without + - *, and those with them.
 #[derive(Drop)]
 pub struct Conditions {
     pub guards: Vec<BoundExpr>,
     pub computed: Vec<BoundExpr>,
+}
+
+/// Puts the conjuncts of a condition at the end: the AND tree at its root is taken apart on both
+/// sides.
+fn put_conjuncts(
+    alloc: Global,
+    scope: &[Heading],
+    condition: &Expr,
+    out: &mut Conditions,
+) -> Result<(), NoMemory>
+    requires { length scope.now ≤ 256 }
+    ensures guards { OnOk result (out.new.guards.items ≡ out.old.guards.items
+        ++ filter (λ c. not (spec.has_arithmetic c))
+        (spec.placed scope.now condition.now).conjuncts) }
+    ensures computed { OnOk result (out.new.computed.items ≡ out.old.computed.items
+        ++ filter spec.has_arithmetic (spec.placed scope.now condition.now).conjuncts) }
+{
+    if let Expr::And(left, right) = condition {
+        put_conjuncts(alloc, scope, left.get(), out)?;
+        put_conjuncts(alloc, scope, right.get(), out)?;
+        return Ok(());
+    }
+    let conjunct = bound_expr(alloc, scope, condition)?;
+    if has_arithmetic(&conjunct) {
+        out.computed.push(conjunct)?;
+    } else {
+        out.guards.push(conjunct)?;
+    }
+    Ok(())
 }
 
 pub fn conditions_of(
@@ -152,16 +144,15 @@ pub fn conditions_of(
 ) -> Result<Conditions, NoMemory>
     requires { length scope.now ≤ 256 }
     ensures guards { IfOk result (λ made. made.guards.items ≡ spec.guards_of scope.now filter.now) }
-    ensures computed { IfOk result (λ made. made.computed.items ≡ spec.computed_of scope.now filter.now) }
+    ensures computed { IfOk result
+        (λ made. made.computed.items ≡ spec.computed_of scope.now filter.now) }
 {
-    let mut guards = Vec::new(alloc);
-    let mut computed = Vec::new(alloc);
-    for conjunct in conjuncts(alloc, scope, filter)? {
-        if has_arithmetic(&conjunct) {
-            computed.push(conjunct)?;
-        } else {
-            guards.push(conjunct)?;
-        }
+    let mut conditions = Conditions {
+        guards: Vec::new(alloc),
+        computed: Vec::new(alloc),
+    };
+    if let Some(condition) = filter {
+        put_conjuncts(alloc, scope, condition, &mut conditions)?;
     }
-    Ok(Conditions { guards, computed })
+    Ok(conditions)
 }

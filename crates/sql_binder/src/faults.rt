@@ -1,6 +1,7 @@
-use lake_model::Refusal;
+ghost use Rattle.sql_binder.specs.Judging.{Judges};
+
 use lake_values::NoMemory;
-use std::alloc::{AllocError, AllocFailed};
+use sql_model::Refusal;
 
 /// Why a statement has no bound form.
 #[derive(Debug, Drop)]
@@ -20,24 +21,38 @@ impl From<NoMemory> for BindFault {
     }
 }
 
-impl From<AllocError> for BindFault {
-    ghost use Rattle.std.specs.Prelude.{◌≡◌};
-    ghost use Rattle.sql_binder.specs.declared.faults.BindFault.TheVariants.{NoMemory as OutOfMemory};
-
-    ghost from_gives = { λ _ fault. fault ≡ OutOfMemory };
-
-    fn from(_refused: AllocError) -> BindFault {
-        BindFault::NoMemory
+fn refuse(refusal: Option<Refusal>) -> Result<(), BindFault>
+    ensures { Judges result refusal }
+{
+    match refusal {
+        Some(refusal) => Err(BindFault::Refused(refusal)),
+        None => Ok(()),
     }
 }
 
-impl<T: Drop> From<AllocFailed<T>> for BindFault {
-    ghost use Rattle.std.specs.Prelude.{◌≡◌};
-    ghost use Rattle.sql_binder.specs.declared.faults.BindFault.TheVariants.{NoMemory as OutOfMemory};
+/// The first fault of each kind among the names of a statement.
+#[derive(Drop)]
+pub struct NameFaults {
+    pub table: Option<Refusal>,
+    pub column: Option<Refusal>,
+    pub ambiguous: Option<Refusal>,
+}
 
-    ghost from_gives = { λ _ fault. fault ≡ OutOfMemory };
+impl NameFaults {
+    ghost use Rattle.sql_binder.specs.Noting.{least};
 
-    fn from(_refused: AllocFailed<T>) -> BindFault {
-        BindFault::NoMemory
+    /// Refuses by the least of the faults.
+    pub fn judge(self) -> Result<(), BindFault>
+        ensures { Judges result (least self) }
+    {
+        let NameFaults {
+            table,
+            column,
+            ambiguous,
+        } = self;
+        refuse(table)?;
+        refuse(column)?;
+        refuse(ambiguous)?;
+        Ok(())
     }
 }

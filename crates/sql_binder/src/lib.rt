@@ -1,11 +1,15 @@
-//! The binder: a statement over the schemas of its tables becomes its bound form, or the least refusal that
-//! holds is answered.
+//! The binder: a statement over the schemas of its tables becomes its bound form, or the least
+//! refusal that holds is answered. The columns that a statement may name are listed once, and its
+//! names are gone through once.
+//!
+//! What the clauses say: `bind` answers exactly what `bound` of `sql_model` says, the bound form
+//! (`bound`) or the least refusal that holds (`refused`), for every statement in form. `bound` is
+//! a function, so at most one answer is right.
 #![tactic(auto)]
 
 mod binding;
 mod expressions;
 mod faults;
-mod form;
 mod forms;
 mod groups;
 mod names;
@@ -16,7 +20,3 @@ mod types;
 
 pub use binding::bind;
 pub use faults::BindFault;
-pub use form::{is_bindable, is_in_form};
-
-#[cfg(test)]
-mod tests;

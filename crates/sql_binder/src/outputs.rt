@@ -1,23 +1,23 @@
 //! The outputs of a query: their names, and what they are in the row of an answer.
 
-ghost use Rattle.std.specs.Prelude.{◌≡◌, ◌+◌, ◌-◌, ◌≤◌, ◌<◌, ◌^◌, ◌++◌, ℕ, length, map, nat_eq, IfOk, IsTrue};
-ghost use Rattle.lake_model.specs.Form.{is_select};
+ghost use Rattle.std.specs.Prelude.{◌≡◌, ◌+◌, ◌≤◌, ℕ, length, map, nat_eq, unwrap_or, IfOk, IsTrue};
 ghost use Rattle.std.specs.List.{list_any, position_from};
 ghost use Rattle.std.specs.Option.{option_copied};
-ghost use Rattle.lake_model.specs.BoundForms as form;
-ghost use Rattle.lake_model.specs.Mentions as spec;
+ghost use Rattle.sql_model.specs.BoundForms as form;
+ghost use Rattle.sql_model.specs.Form.{is_select};
+ghost use Rattle.sql_model.specs.Mentions as mention;
+ghost use Rattle.sql_model.specs.Scopes as spec;
+ghost use Rattle.sql_binder.specs.Keys.{place_of_key};
 
 use crate::expressions::{bound_expr, column_of};
-use crate::scopes::output_named;
-use lake_model::{
-    Agg, BoundAgg, BoundExpr, Expr, Found, Heading, Item, Key, OrderBy, OrderKey, Ref, Select,
-};
+use crate::scopes::named;
 use lake_values::{NoMemory, Text};
+use sql_model::{Agg, BoundAgg, BoundExpr, Expr, Found, Heading, Item, Key, OrderBy, Ref, Select};
 use std::alloc::Global;
 
 /// The reference that an expression is, if it is one.
-pub fn referred(expression: &Expr) -> Option<&Ref>
-    ensures { option_copied result ≡ spec.referred expression.now }
+fn referred(expression: &Expr) -> Option<&Ref>
+    ensures { option_copied result ≡ mention.referred expression.now }
 {
     match expression {
         Expr::Column(reference) => Some(reference),
@@ -25,75 +25,66 @@ pub fn referred(expression: &Expr) -> Option<&Ref>
     }
 }
 
-fn copy_name(name: &Option<Text>) -> Result<Option<Text>, NoMemory>
-    ensures { IfOk result (λ copy. copy ≡ name.now) }
-{
-    match name {
-        Some(name) => Ok(Some(name.copy()?)),
-        None => Ok(None),
-    }
-}
-
-fn column_name(expression: &Expr) -> Result<Option<Text>, NoMemory>
-    ensures { IfOk result (λ name. name ≡ spec.column_name expression.now) }
-{
-    match referred(expression) {
-        Some(reference) => Ok(Some(reference.column.copy()?)),
-        None => Ok(None),
-    }
-}
-
-fn output_name(item: &Item) -> Result<Option<Text>, NoMemory>
-    ensures { IfOk result (λ name. name ≡ spec.output_name item.now) }
+fn is_called(item: &Item, name: &Text) -> bool
+    ensures { result ≡ spec.has_name name.now (mention.output_name item.now) }
 {
     match item {
-        Item::Plain(_, Some(name)) => Ok(Some(name.copy()?)),
-        Item::Plain(expression, None) => column_name(expression),
-        Item::Agg(_, name) => copy_name(name),
+        Item::Plain(_, Some(own)) => name == own,
+        Item::Plain(expression, None) => match referred(expression) {
+            Some(reference) => *name == reference.column,
+            None => false,
+        },
+        Item::Agg(_, Some(own)) => name == own,
+        Item::Agg(_, None) => false,
     }
 }
 
-fn column_names(alloc: Global, scope: &[Heading]) -> Result<Vec<Option<Text>>, NoMemory>
-    ensures { IfOk result (λ names. names.items ≡ map (λ h. Some h.name) scope.now) }
+fn some_is_called(items: &[Item], name: &Text) -> bool
+    ensures { result ≡ list_any (spec.has_name name.now) (map mention.output_name items.now) }
 {
-    let mut names = Vec::new(alloc);
-    for heading in scope {
-        names.push(Some(heading.name.copy()?))?;
-    }
-    Ok(names)
-}
-
-fn item_names(alloc: Global, items: &[Item]) -> Result<Vec<Option<Text>>, NoMemory>
-    ensures { IfOk result (λ names. names.items ≡ map spec.output_name items.now) }
-{
-    let mut names = Vec::new(alloc);
     for item in items {
-        names.push(output_name(item)?)?;
+        if is_called(item, name) {
+            return true;
+        }
     }
-    Ok(names)
+    false
 }
 
-/// The names of the outputs.
-pub fn output_names(
-    alloc: Global,
-    scope: &[Heading],
-    query: &Select,
-) -> Result<Vec<Option<Text>>, NoMemory>
-    ensures { IfOk result (λ names. names.items ≡ spec.output_names scope.now query.now) }
+fn item_named(items: &[Item], name: &Text) -> Found
+    requires { length items.now ≤ 64 }
+    ensures { result ≡ spec.output_named (map mention.output_name items.now) name.now }
+{
+    for (place, item) in items.iter().enumerate() {
+        if is_called(item, name) {
+            if some_is_called(&items[place + 1..], name) {
+                return Found::Several;
+            }
+            return Found::One(place as u32);
+        }
+    }
+    Found::Absent
+}
+
+/// Which output a name of ORDER BY names.
+pub fn output_named(scope: &[Heading], query: &Select, name: &Text) -> Found
+    requires room { length scope.now ≤ 256 }
+    requires form { IsTrue (is_select query.now) }
+    ensures { result ≡ spec.output_named (mention.output_names scope.now query.now) name.now }
 {
     if query.star {
-        column_names(alloc, scope)
+        named(scope, &None, name)
     } else {
-        item_names(alloc, query.items.as_slice())
+        item_named(query.items.as_slice(), name)
     }
 }
 
-fn is_aggregate(item: &Item) -> bool
-    ensures { result ≡ form.is_aggregate item.now }
+pub fn output_count(scope: &[Heading], query: &Select) -> usize
+    ensures { result ≡ length (mention.output_names scope.now query.now) }
 {
-    match item {
-        Item::Plain(_, _) => false,
-        Item::Agg(_, _) => true,
+    if query.star {
+        scope.len()
+    } else {
+        query.items.len()
     }
 }
 
@@ -101,27 +92,21 @@ fn has_aggregate(items: &[Item]) -> bool
     ensures { result ≡ list_any form.is_aggregate items.now }
 {
     for item in items {
-        if is_aggregate(item) {
+        if let Item::Agg(_, _) = item {
             return true;
         }
     }
     false
 }
 
-pub fn is_empty<T>(list: &[T]) -> bool
-    ensures { result ≡ form.is_empty list.now }
-{
-    match list {
-        [] => true,
-        [_, ..] => false,
-    }
-}
-
 /// Whether the query has GROUP BY or an aggregate.
 pub fn is_grouped(query: &Select) -> bool
     ensures { result ≡ form.is_grouped query.now }
 {
-    !is_empty(query.groups.as_slice()) || has_aggregate(query.items.as_slice())
+    match query.groups.as_slice() {
+        [] => has_aggregate(query.items.as_slice()),
+        [_, ..] => true,
+    }
 }
 
 /// The columns of GROUP BY.
@@ -134,6 +119,30 @@ pub fn keys_of(alloc: Global, scope: &[Heading], groups: &[Ref]) -> Result<Vec<u
         keys.push(column_of(scope, group))?;
     }
     Ok(keys)
+}
+
+fn place_in(numbers: &[u32], number: u32) -> Option<u32>
+    requires { length numbers.now ≤ 64 }
+    ensures { result ≡ position_from (nat_eq number) 0 numbers.now }
+{
+    for (place, other) in numbers.iter().enumerate() {
+        if number == *other {
+            return Some(place as u32);
+        }
+    }
+    None
+}
+
+/// The place among the keys of the group column that an expression is, if it is one.
+pub fn key_place(scope: &[Heading], keys: &[u32], expression: &Expr) -> Option<u32>
+    requires room { length scope.now ≤ 256 }
+    requires few { length keys.now ≤ 64 }
+    ensures { result ≡ place_of_key scope.now keys.now expression.now }
+{
+    match referred(expression) {
+        Some(reference) => place_in(keys, column_of(scope, reference)),
+        None => None,
+    }
 }
 
 fn bound_agg(alloc: Global, scope: &[Heading], aggregate: &Agg) -> Result<BoundAgg, NoMemory>
@@ -207,29 +216,6 @@ pub fn projection(
     }
 }
 
-fn place_in(numbers: &[u32], number: u32) -> u32
-    requires { length numbers.now ≤ 64 }
-    ensures { result ≡ form.place_in numbers.now number }
-{
-    for (place, other) in numbers.iter().enumerate() {
-        if number == *other {
-            return place as u32;
-        }
-    }
-    0
-}
-
-fn key_place(scope: &[Heading], keys: &[u32], expression: &Expr) -> u32
-    requires room { length scope.now ≤ 256 }
-    requires few { length keys.now ≤ 64 }
-    ensures { result ≡ form.key_place scope.now keys.now expression.now }
-{
-    match referred(expression) {
-        Some(reference) => place_in(keys, column_of(scope, reference)),
-        None => 0,
-    }
-}
-
 /// The place of each item in a group's row.
 pub fn group_outputs(
     alloc: Global,
@@ -240,13 +226,16 @@ pub fn group_outputs(
     requires room { length scope.now ≤ 256 }
     requires few { length keys.now ≤ 64 }
     requires items { length items.now ≤ 64 }
-    ensures { IfOk result (λ outputs. outputs.items ≡ form.group_outputs scope.now keys.now (length keys.now) items.now) }
+    ensures { IfOk result (λ outputs. outputs.items ≡
+        form.group_outputs scope.now keys.now (length keys.now) items.now) }
 {
     let mut outputs = Vec::new(alloc);
     let mut next = keys.len() as u32;
     for item in items {
         match item {
-            Item::Plain(expression, _) => outputs.push(key_place(scope, keys, expression))?,
+            Item::Plain(expression, _) => {
+                outputs.push(key_place(scope, keys, expression).unwrap_or(0))?;
+            }
             Item::Agg(_, _) => {
                 outputs.push(next)?;
                 next += 1;
@@ -268,43 +257,36 @@ pub fn item_numbers(alloc: Global, items: &[BoundExpr]) -> Result<Vec<u32>, NoMe
     Ok(numbers)
 }
 
-fn output_numbered(outputs: &[Option<Text>], number: u64) -> u32
-    requires { length outputs.now ≤ 256 }
-    ensures { result ≡ form.output_of outputs.now (OrderBy.Number number) }
-{
-    if number <= outputs.len() as u64 {
-        number.saturating_sub(1) as u32
-    } else {
-        0
-    }
-}
-
-fn output_of(outputs: &[Option<Text>], by: &OrderBy) -> u32
-    requires { length outputs.now ≤ 256 }
-    ensures { result ≡ form.output_of outputs.now by.now }
+fn output_of(scope: &[Heading], query: &Select, by: &OrderBy) -> u32
+    requires room { length scope.now ≤ 256 }
+    requires form { IsTrue (is_select query.now) }
+    ensures { result ≡ form.output_of (mention.output_names scope.now query.now) by.now }
 {
     match by {
-        OrderBy::Name(name) => match output_named(outputs, name) {
+        OrderBy::Name(name) => match output_named(scope, query, name) {
             Found::One(place) => place,
             Found::Absent | Found::Several => 0,
         },
-        OrderBy::Number(number) => output_numbered(outputs, *number),
+        OrderBy::Number(number) => {
+            if *number > output_count(scope, query) as u64 {
+                return 0;
+            }
+            number.saturating_sub(1) as u32
+        }
     }
 }
 
 /// The keys of ORDER BY as places of outputs.
-pub fn order_of(
-    alloc: Global,
-    outputs: &[Option<Text>],
-    order: &[OrderKey],
-) -> Result<Vec<Key>, NoMemory>
-    requires { length outputs.now ≤ 256 }
-    ensures { IfOk result (λ keys. keys.items ≡ map (form.order_key outputs.now) order.now) }
+pub fn order_of(alloc: Global, scope: &[Heading], query: &Select) -> Result<Vec<Key>, NoMemory>
+    requires room { length scope.now ≤ 256 }
+    requires form { IsTrue (is_select query.now) }
+    ensures { IfOk result (λ keys. keys.items ≡
+        map (form.order_key (mention.output_names scope.now query.now)) query.now.order) }
 {
     let mut keys = Vec::new(alloc);
-    for key in order {
+    for key in query.order.as_slice() {
         keys.push(Key {
-            column: output_of(outputs, &key.by),
+            column: output_of(scope, query, &key.by),
             descending: key.descending,
         })?;
     }

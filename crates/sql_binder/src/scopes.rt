@@ -1,15 +1,16 @@
 //! What the names of a statement stand for.
 
-ghost use Rattle.std.specs.Prelude.{◌≡◌, ◌+◌, ◌*◌, ◌≤◌, ◌++◌, length, codes, IfOk, OnOk, IsTrue};
-ghost use Rattle.std.specs.String.{string_bytes};
-ghost use Rattle.lake_model.specs.Form.{is_name, is_name_or_none};
+ghost use Rattle.std.specs.Prelude.{◌≡◌, ◌+◌, ◌*◌, ◌≤◌, ◌++◌, length, take, codes, IfOk, OnOk, IsTrue};
+ghost use Rattle.std.specs.Fmt.{decimal};
 ghost use Rattle.std.specs.List.{list_any};
 ghost use Rattle.std.specs.Option.{option_copied};
-ghost use Rattle.lake_model.specs.Scopes as spec;
-ghost use Rattle.lake_model.specs.Scopes.{fits, has_name, found_at, found_from};
+ghost use Rattle.std.specs.String.{string_bytes};
+ghost use Rattle.sql_model.specs.Form.{is_name, is_name_or_none, IsInForm};
+ghost use Rattle.sql_model.specs.Scopes as spec;
+ghost use Rattle.sql_binder.specs.Scoping.{statement_scope, next_headings, behind, IsFrom};
 
-use lake_model::{Found, Heading, Schemas, SourceRef};
 use lake_values::{Column, NoMemory, Schema, Text, short_text};
+use sql_model::{Found, Heading, Schemas, SourceRef, Statement};
 use std::alloc::{AllocError, Global};
 
 /// The schema of the table of this name.
@@ -26,7 +27,8 @@ pub fn schema_named<'a>(name: &Text, schemas: &'a Schemas) -> Option<&'a Schema>
 
 /// The columns of the table of this name; one that isn't there has none.
 pub fn columns_named<'a>(schemas: &'a Schemas, name: &Text) -> &'a [Column]
-    ensures { result.now ≡ spec.columns_named name.now schemas.now }
+    ensures columns { result.now ≡ spec.columns_named name.now schemas.now }
+    ensures few { length result.now ≤ 64 }
 {
     match schema_named(name, schemas) {
         Some(schema) => schema.columns(),
@@ -34,39 +36,99 @@ pub fn columns_named<'a>(schemas: &'a Schemas, name: &Text) -> &'a [Column]
     }
 }
 
-fn heading(table: &Text, column: &Column) -> Result<Heading, NoMemory>
-    ensures { IfOk result (λ made. made ≡ spec.heading table.now column.now) }
-{
-    Ok(Heading {
-        table: table.copy()?,
-        name: column.name.copy()?,
-        kind: column.kind,
-    })
-}
-
-/// Puts the columns of a table that the statement calls by this name at the end.
-pub fn put_headings(name: &Text, columns: &[Column], out: &mut Vec<Heading>) -> Result<(), NoMemory>
-    ensures { OnOk result (out.new.items ≡ out.old.items ++ spec.headings name.now columns.now) }
+/// Puts the columns of a table at the end, under the name that the statement has for it.
+fn put_headings(name: &Text, columns: &[Column], scope: &mut Vec<Heading>) -> Result<(), NoMemory>
+    ensures { OnOk result (scope.new.items ≡ scope.old.items
+        ++ spec.headings name.now columns.now) }
 {
     for column in columns {
-        out.push(heading(name, column)?)?;
+        scope.push(Heading {
+            table: name.copy()?,
+            name: column.name.copy()?,
+            kind: column.kind,
+        })?;
     }
     Ok(())
 }
 
-fn is_of_table(table: &Option<Text>, name: &Text) -> bool
-    ensures { result ≡ spec.is_of_table table.now name.now }
+fn table_scope(alloc: Global, name: &Text, columns: &[Column]) -> Result<Vec<Heading>, NoMemory>
+    ensures { IfOk result (λ scope. scope.items ≡ spec.headings name.now columns.now) }
 {
-    match table {
-        None => true,
-        Some(table) => table == name,
+    let mut scope = Vec::new(alloc);
+    put_headings(name, columns, &mut scope)?;
+    Ok(scope)
+}
+
+/// The columns of the joined row of all sources.
+fn joined_scope(
+    alloc: Global,
+    schemas: &Schemas,
+    sources: &[SourceRef],
+) -> Result<Vec<Heading>, NoMemory>
+    ensures scope { IfOk result (λ scope. scope.items ≡ spec.scope_of schemas.now sources.now) }
+    ensures few { IfOk result (λ scope. length scope.items ≤ 64 * length sources.now) }
+{
+    let mut scope = Vec::new(alloc);
+    for source in sources {
+        put_headings(
+            &source.name,
+            columns_named(schemas, &source.table),
+            &mut scope,
+        )?;
+    }
+    Ok(scope)
+}
+
+/// The columns that the references of a statement may name.
+pub fn scope_of(
+    alloc: Global,
+    schemas: &Schemas,
+    statement: &Statement,
+) -> Result<Vec<Heading>, NoMemory>
+    requires { IsInForm statement.now }
+    ensures scope { IfOk result (λ scope. scope.items ≡ statement_scope schemas.now statement.now) }
+    ensures few { IfOk result (λ scope. length scope.items ≤ 256) }
+{
+    match statement {
+        Statement::Select(query) => joined_scope(alloc, schemas, query.sources.as_slice()),
+        Statement::Create { table, columns, .. } => table_scope(alloc, table, columns.as_slice()),
+        Statement::Update { table, .. } => table_scope(alloc, table, columns_named(schemas, table)),
+        Statement::Delete { table, .. } => table_scope(alloc, table, columns_named(schemas, table)),
+        Statement::Insert { .. } => Ok(Vec::new(alloc)),
+        Statement::Compact { .. } => Ok(Vec::new(alloc)),
+        Statement::Checkpoint { .. } => Ok(Vec::new(alloc)),
+        Statement::Begin => Ok(Vec::new(alloc)),
+        Statement::Commit => Ok(Vec::new(alloc)),
+        Statement::RollBack => Ok(Vec::new(alloc)),
+        Statement::Collect { .. } => Ok(Vec::new(alloc)),
+    }
+}
+
+/// The columns of the row once the first of these sources is joined, whose own begin at a place.
+pub fn joined<'a>(
+    schemas: &Schemas,
+    scope: &'a [Heading],
+    start: usize,
+    sources: &[SourceRef],
+) -> &'a [Heading]
+    requires { IsFrom schemas.now scope.now start sources.now }
+    ensures joined { result.now ≡ take start scope.now ++ next_headings schemas.now sources.now }
+    ensures first { take (length result.now) scope.now ≡ result.now }
+    ensures rest { IsFrom schemas.now scope.now (length result.now) (behind sources.now) }
+{
+    match sources {
+        [source, ..] => &scope[..start + columns_named(schemas, &source.table).len()],
+        [] => &scope[..start],
     }
 }
 
 fn fits(table: &Option<Text>, column: &Text, heading: &Heading) -> bool
     ensures { result ≡ spec.fits table.now column.now heading.now }
 {
-    is_of_table(table, &heading.table) && *column == heading.name
+    match table {
+        None => *column == heading.name,
+        Some(table) => *table == heading.table && *column == heading.name,
+    }
 }
 
 fn fits_some(table: &Option<Text>, column: &Text, scope: &[Heading]) -> bool
@@ -88,86 +150,6 @@ pub fn named(scope: &[Heading], table: &Option<Text>, column: &Text) -> Found
     for (place, heading) in scope.iter().enumerate() {
         if fits(table, column, heading) {
             if fits_some(table, column, &scope[place + 1..]) {
-                return Found::Several;
-            }
-            return Found::One(place as u32);
-        }
-    }
-    Found::Absent
-}
-
-/// Puts the columns of a source at the end.
-pub fn put_source(
-    schemas: &Schemas,
-    source: &SourceRef,
-    out: &mut Vec<Heading>,
-) -> Result<(), NoMemory>
-    ensures ok { OnOk result (out.new.items ≡ out.old.items ++ spec.source_headings schemas.now source.now) }
-    ensures few { OnOk result (length out.new.items ≤ length out.old.items + 64) }
-{
-    let Some(schema) = schema_named(&source.table, schemas) else {
-        return Ok(());
-    };
-    put_headings(&source.name, schema.columns(), out)?;
-    Ok(())
-}
-
-/// The columns of the joined row of all sources.
-pub fn scope_of(
-    alloc: Global,
-    schemas: &Schemas,
-    sources: &[SourceRef],
-) -> Result<Vec<Heading>, NoMemory>
-    ensures ok { IfOk result (λ scope. scope.items ≡ spec.scope_of schemas.now sources.now) }
-    ensures few { IfOk result (λ scope. length scope.items ≤ 64 * length sources.now) }
-{
-    let mut scope = Vec::new(alloc);
-    for source in sources {
-        put_source(schemas, source, &mut scope)?;
-    }
-    Ok(scope)
-}
-
-/// The columns of a table that the statement calls by its own name.
-pub fn table_scope(alloc: Global, schemas: &Schemas, table: &Text) -> Result<Vec<Heading>, NoMemory>
-    ensures ok { IfOk result (λ scope. scope.items ≡ spec.table_scope schemas.now table.now) }
-    ensures few { IfOk result (λ scope. length scope.items ≤ 64) }
-{
-    let mut scope = Vec::new(alloc);
-    if let Some(schema) = schema_named(table, schemas) {
-        put_headings(table, schema.columns(), &mut scope)?;
-    }
-    Ok(scope)
-}
-
-fn has_name(name: &Text, output: &Option<Text>) -> bool
-    ensures { result ≡ spec.has_name name.now output.now }
-{
-    match output {
-        Some(output) => name == output,
-        None => false,
-    }
-}
-
-fn some_has_name(name: &Text, outputs: &[Option<Text>]) -> bool
-    ensures { result ≡ list_any (spec.has_name name.now) outputs.now }
-{
-    for output in outputs {
-        if has_name(name, output) {
-            return true;
-        }
-    }
-    false
-}
-
-/// Which output a name of ORDER BY names.
-pub fn output_named(outputs: &[Option<Text>], name: &Text) -> Found
-    requires { length outputs.now ≤ 256 }
-    ensures { result ≡ spec.output_named outputs.now name.now }
-{
-    for (place, output) in outputs.iter().enumerate() {
-        if has_name(name, output) {
-            if some_has_name(name, &outputs[place + 1..]) {
                 return Found::Several;
             }
             return Found::One(place as u32);
@@ -201,4 +183,12 @@ pub fn printed(alloc: Global, table: &Option<Text>, column: &Text) -> Result<Tex
         None => column.copy(),
         Some(table) => dotted(alloc, table, column),
     }
+}
+
+/// The number of an output as it is printed.
+pub fn number_text(alloc: Global, number: u64) -> Result<Text, NoMemory>
+    ensures { IfOk result (λ text. text ≡ decimal number) }
+{
+    let text = format!(in alloc; "{number}")?;
+    short_text(alloc, text.as_str())
 }

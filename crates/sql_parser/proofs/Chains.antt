@@ -1,10 +1,10 @@
 -- How a loop reads a chain of operands.
 use Rattle.std.proofs.Common.{◌≡◌, refl, ap, ◌∙◌, ℕ, ◌<◌, true, false, List, None, Ok, Err, length, fold}
-use Rattle.predictive_grammar.specs.Grammars.{many, ◌&◌}
-use Rattle.predictive_grammar.specs.Prediction.{empty_of, first_of, decides, begins}
-use Rattle.predictive_grammar.specs.Reading.{Answer, Refused, mapped}
-use Rattle.predictive_grammar.proofs.Lists.{list_ends, list_goes_on, list_refused, takes_token}
-use Rattle.lake_model.specs.declared.expressions.Expr.{Expr}
+use Rattle.grammar_laws.specs.Grammars.{many, ◌&◌}
+use Rattle.grammar_laws.specs.Prediction.{empty_of, first_of, decides, begins}
+use Rattle.grammar_laws.specs.Reading.{Answer, Refused, mapped}
+use Rattle.grammar_laws.proofs.Lists.{list_ends, list_goes_on, list_refused, takes_token}
+use Rattle.sql_model.specs.declared.expressions.Expr.{Expr}
 use Rattle.sql_tokens.specs.declared.lexemes.Lexed.{Lexed}
 use Rattle.sql_parser.specs.declared.expressions.BinaryOp.{BinaryOp}
 use Rattle.sql_parser.specs.declared.expressions.Chain.{Chain}
@@ -12,7 +12,7 @@ use Rattle.sql_parser.specs.declared.expressions.Chain.TheVariants.{Product, Sum
 use Rattle.sql_parser.specs.Classes.{words}
 use Rattle.sql_parser.specs.ClassLaws.{classes}
 use Rattle.sql_parser.specs.Language.{ends}
-use Rattle.sql_parser.specs.Grammar.{Form, rules, joined, chain, binary_op, operand, literal, reference, parenthesized, factor, product, sum, null_check, tested, test, negated, negation, conjunction, disjunction}
+use Rattle.sql_parser.specs.Grammar.{Form, rules, joined, chain, binary_op, operand, literal, reference, parenthesized, factor, product, sum, null_check, tested, predicate, negated, negation, conjunction, disjunction}
 use Rattle.sql_parser.specs.Ahead.{Ahead, reading, is_at}
 
 abbrev pub Step : Type 0
@@ -34,7 +34,7 @@ pub record Completes (levels : ℕ) (k : Chain) (before : Ahead) (left : Expr) (
   pub ending : now.ending ≡ before.ending
 
 step_decides : (k : Chain) → decides classes ends (step k) ≡ true
-unfolding literal reference parenthesized factor binary_op operand product sum null_check tested test negated negation conjunction disjunction
+unfolding literal reference parenthesized factor binary_op operand product sum null_check tested predicate negated negation conjunction disjunction
 step_decides Product = refl
 step_decides Sum = refl
 step_decides Conjunction = refl

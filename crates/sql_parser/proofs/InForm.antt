@@ -1,21 +1,21 @@
 -- Each statement that is read is in form.
 use Rattle.std.proofs.Common.{◌≡◌, refl, sym, ap, ◌∙◌, arith, ℕ, zero, suc, pred, ◌-◌, ◌<◌, ◌≤◌, ◌==◌, nat_le, le-leb, eq-eqb, leb-true, Bool, true, false, not, ◌&&◌, ◌||◌, List, [], ◌∷◌, Option, Some, None, option_map, is_none, length, map, if◌then◌else◌}
 use Rattle.std.specs.List.{list_all, list_any}
-use Rattle.predictive_grammar.specs.Grammars.{many, as_, listed}
-use Rattle.predictive_grammar.specs.Phrases.{has_room, less_one}
+use Rattle.grammar_laws.specs.Grammars.{many, as_, listed}
+use Rattle.grammar_laws.specs.Phrases.{has_room, less_one}
 use Rattle.lake_values.specs.declared.schemas.Column.{Column}
 use Rattle.lake_values.specs.declared.values.Value.{Value}
-use Rattle.lake_model.specs.declared.expressions.Agg.TheVariants.{CountAll, Count, Sum, Min, Max}
-use Rattle.lake_model.specs.declared.expressions.Expr.{Expr}
-use Rattle.lake_model.specs.declared.expressions.Item.{Item}
-use Rattle.lake_model.specs.declared.expressions.Item.TheVariants.{Plain, Agg as Aggregate}
-use Rattle.lake_model.specs.declared.expressions.Ref.{Ref}
-use Rattle.lake_model.specs.declared.statements.OrderBy.TheVariants.{Name as ByName, Number as ByNumber}
-use Rattle.lake_model.specs.declared.statements.Set.{Set}
-use Rattle.lake_model.specs.declared.statements.Statement.{Statement}
-use Rattle.lake_model.specs.declared.statements.Statement.TheVariants.{Create, Begin, Commit, RollBack, Insert, Select, Update, Delete}
-use Rattle.lake_model.specs.BoundForms.{is_empty, is_aggregate}
-use Rattle.lake_model.specs.Form.{is_between, is_name, is_name_or_none, are_names, is_expr, is_filter, is_agg, is_item, is_source, is_pair, is_on, is_key_by, is_key, is_set, is_tuple, is_select, has_bounds, has_item_count, groups_one_table, is_form}
+use Rattle.sql_model.specs.declared.expressions.Agg.TheVariants.{CountAll, Count, Sum, Min, Max}
+use Rattle.sql_model.specs.declared.expressions.Expr.{Expr}
+use Rattle.sql_model.specs.declared.expressions.Item.{Item}
+use Rattle.sql_model.specs.declared.expressions.Item.TheVariants.{Plain, Agg as Aggregate}
+use Rattle.sql_model.specs.declared.expressions.Ref.{Ref}
+use Rattle.sql_model.specs.declared.statements.OrderBy.TheVariants.{Name as ByName, Number as ByNumber}
+use Rattle.sql_model.specs.declared.statements.Set.{Set}
+use Rattle.sql_model.specs.declared.statements.Statement.{Statement}
+use Rattle.sql_model.specs.declared.statements.Statement.TheVariants.{Create, Begin, Commit, RollBack, Insert, Select, Update, Delete}
+use Rattle.sql_model.specs.BoundForms.{is_empty, is_aggregate}
+use Rattle.sql_model.specs.Form.{is_between, is_name, is_name_or_none, are_names, is_expr, is_filter, is_agg, is_item, is_source, is_pair, is_on, is_key_by, is_key, is_set, is_tuple, is_select, has_bounds, has_item_count, groups_one_table, is_form}
 use Rattle.sql_parser.specs.declared.selects.Body.{Body}
 use Rattle.sql_parser.specs.declared.selects.Head.{Head}
 use Rattle.sql_parser.specs.declared.selects.Join.{Join}
@@ -23,7 +23,7 @@ use Rattle.sql_parser.specs.declared.selects.Tail.{Tail}
 use Rattle.sql_parser.specs.Classes.{Class}
 use Rattle.sql_parser.specs.Grammar
 use Rattle.sql_parser.specs.Grammar.{Form, up_to_64, in_parentheses, optional, steps_from}
-use Rattle.lake_model.specs.ScriptStatements.{is_script_statement}
+use Rattle.sql_model.specs.ScriptStatements.{is_script_statement}
 use Rattle.sql_parser.proofs.Yields.{Says}
 use Rattle.sql_parser.proofs.InFormExpressions.{Reads, Passes, Any, reads_as, reads_both, reads_either, reads_nothing, reads_many, reads_any, reads_name, reads_behind, reads_before, reads_maybe, reads_reference, reads_expression, reads_literal, passes_both, passes_earlier, passes_later, if_any, both_true, both_parts, reads_forked}
 

@@ -1,18 +1,18 @@
 -- What is read as an expression is in form: its names are short, and it has no more operators than it may.
 use Rattle.std.proofs.Common.{◌≡◌, refl, sym, ap, ◌∙◌, arith, ℕ, zero, suc, ◌+◌, ◌-◌, ◌<◌, ◌≤◌, nat_le, Bool, true, false, ◌&&◌, List, [], ◌∷◌, Option, Some, None, fold, is_some, le-leb}
 use Rattle.std.specs.List.{list_all}
-use Rattle.predictive_grammar.specs.Grammars.{one, nothing, both, either, fork, many, as_, down, maybe, plain, counted, ◌&◌, ◌>>◌, ◌<<◌}
-use Rattle.predictive_grammar.specs.Phrases.{has_room, less_one}
-use Rattle.predictive_grammar.specs.Reading.{read}
+use Rattle.grammar_laws.specs.Grammars.{one, nothing, both, either, fork, many, as_, down, maybe, plain, counted, ◌&◌, ◌>>◌, ◌<<◌}
+use Rattle.grammar_laws.specs.Phrases.{has_room, less_one}
+use Rattle.grammar_laws.specs.Reading.{read}
 use Rattle.lake_values.specs.declared.values.Value.{Value}
-use Rattle.lake_model.specs.declared.expressions.ArithOp.{ArithOp}
-use Rattle.lake_model.specs.declared.expressions.CmpOp.{CmpOp}
-use Rattle.lake_model.specs.declared.expressions.Expr.{Expr}
-use Rattle.lake_model.specs.declared.expressions.Expr.TheFolds.{fold-roll-Expr}
-use Rattle.lake_model.specs.declared.expressions.Expr.TheOpen.{Expr-F}
-use Rattle.lake_model.specs.declared.expressions.Expr.TheVariants as expr
-use Rattle.lake_model.specs.declared.expressions.Ref.{Ref}
-use Rattle.lake_model.specs.Form.{is_between, is_name, are_names, names_step, has_names, operators_step, operators, is_expr}
+use Rattle.sql_model.specs.declared.expressions.ArithOp.{ArithOp}
+use Rattle.sql_model.specs.declared.expressions.CmpOp.{CmpOp}
+use Rattle.sql_model.specs.declared.expressions.Expr.{Expr}
+use Rattle.sql_model.specs.declared.expressions.Expr.TheFolds.{fold-roll-Expr}
+use Rattle.sql_model.specs.declared.expressions.Expr.TheOpen.{Expr-F}
+use Rattle.sql_model.specs.declared.expressions.Expr.TheVariants as expr
+use Rattle.sql_model.specs.declared.expressions.Ref.{Ref}
+use Rattle.sql_model.specs.Form.{is_between, is_name, are_names, names_step, has_names, operators_step, operators, is_expr}
 use Rattle.sql_tokens.specs.declared.keywords.Keyword.TheVariants as keyword
 use Rattle.sql_tokens.specs.declared.lexemes.Lexed.{Lexed}
 use Rattle.sql_tokens.specs.declared.lexemes.Lexeme.{Lexeme}
@@ -22,7 +22,7 @@ use Rattle.sql_parser.specs.declared.expressions.BinaryOp.TheVariants as binary
 use Rattle.sql_parser.specs.declared.expressions.Chain.{Chain}
 use Rattle.sql_parser.specs.declared.expressions.Chain.TheVariants.{Product, Sum, Conjunction, Disjunction}
 use Rattle.sql_parser.specs.Classes.{Class, Sort, a_name, the_keyword, an_expression, a_negation, is_of, fits, name_in}
-use Rattle.sql_parser.specs.Grammar.{Form, rules, key_operator, name, literal, joined, ref_of, reference, parenthesized, factor, chain_of, binary_op, product, sum, null_test, null_check, comparison, compared, tested, applied, test, negated, negation, conjunction, disjunction, expression}
+use Rattle.sql_parser.specs.Grammar.{Form, rules, key_operator, name, literal, joined, ref_of, reference, parenthesized, factor, chain_of, binary_op, product, sum, null_test, null_check, comparison, compared, tested, applied, predicate, negated, negation, conjunction, disjunction, expression}
 use Rattle.sql_parser.proofs.Yields.{Says, Yields, yields_one, yields_nothing, yields_as, yields_both, yields_either, yields_fork, yields_many, yields_afresh, yields_down}
 
 abbrev pub is_session : ℕ → Bool
@@ -346,9 +346,9 @@ reads_tested {levels} below =
 abbrev MayTurn : Says (Option (Expr → Expr))
 MayTurn b f l = (e : Expr) → has_names e ≡ true → (has_names (applied e f) ≡ true) × (operators (applied e f) + l ≤ b + operators e)
 
-reads_test : {levels : ℕ} → Below levels → Reads levels test Takes
-unfolding test
-reads_test {levels} below =
+reads_predicate : {levels : ℕ} → Below levels → Reads levels predicate Takes
+unfolding predicate
+reads_predicate {levels} below =
     let behind : Reads levels (maybe tested) MayTurn =
     reads_either (reads_as {f = Some} MayTurn (reads_tested below) (λ b f l p. p)) (reads_nothing MayTurn (λ b e p. (p, omega arith))) in
     reads_as {f = λ x. applied x.0 x.1} Takes
@@ -364,7 +364,7 @@ reads_negation below =
     (reads_down {cost = 1} {c = the_keyword keyword.Not} {sort = a_negation} Takes (λ b x l. (has_names x ≡ true) × (operators x + 1 + l ≤ b)) (λ n lt. (below n lt).1)
     (λ b x l enough p. (p.0, omega (arith, p.1))))
     (λ b x l p. (names_Not x ∙ p.0, omega (arith, operators_Not x, p.1))))
-    (reads_test below)
+    (reads_predicate below)
 
 reads_disjunction : {levels : ℕ} → Below levels → Reads levels disjunction Takes
 unfolding disjunction conjunction

@@ -1,10 +1,10 @@
 -- What is answered for the bytes of a script, from reading its lines.
 use Rattle.std.proofs.Common.{◌≡◌, refl, sym, ap, ◌∙◌, ℕ, suc, ◌≤◌, ◌&&◌, true, false, List, [], ◌∷◌, Option, None, Some, is_none, Result, Ok, Err, length, le_refl}
-use Rattle.predictive_grammar.specs.Phrases.{PhraseIn, Deeper}
-use Rattle.predictive_grammar.specs.Reading.{Answer, Refusal, Syntax, mapped, of_all, read, read_deeper}
-use Rattle.predictive_grammar.proofs.Kept.{members_in_limit}
-use Rattle.predictive_grammar.proofs.Sound.{sound_in, sound_deeper}
-use Rattle.lake_model.specs.declared.scripts.Step.{Step}
+use Rattle.grammar_laws.specs.Phrases.{PhraseIn, Deeper}
+use Rattle.grammar_laws.specs.Reading.{Answer, Refusal, Syntax, mapped, of_all, read, read_deeper}
+use Rattle.grammar_laws.proofs.Kept.{members_in_limit}
+use Rattle.grammar_laws.proofs.Sound.{sound_in, sound_deeper}
+use Rattle.sql_model.specs.declared.scripts.Step.{Step}
 use Rattle.sql_tokens.specs.declared.faults.BadToken.{BadToken}
 use Rattle.sql_tokens.specs.declared.faults.ParseFault.{ParseFault}
 use Rattle.sql_tokens.specs.declared.faults.ParseFault.TheVariants as fault
@@ -39,7 +39,7 @@ few_lines before after xs reads =
 abbrev pub answer : List ℕ → Scan → Answer Lexed (List Line) → Result (List Step) ScriptBad
 answer bytes s read = placed bytes (judged bytes s (of_all (mapped (steps_from 1) read)))
 
-from_lines : (bytes : List ℕ) (first : Ahead) → AtFirst bytes first → script_of bytes ≡ answer bytes (scan_at 0 bytes) (reading most_levels lines first)
+pub from_lines : (bytes : List ℕ) (first : Ahead) → AtFirst bytes first → script_of bytes ≡ answer bytes (scan_at 0 bytes) (reading most_levels lines first)
 unfolding script_of script
 from_lines bytes first at =
     let same = ap (λ n. answer bytes (scan_at 0 bytes) (read rules most_levels lines n (scan_at 0 bytes).tokens)) (sym at.operators) in

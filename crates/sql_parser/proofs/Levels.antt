@@ -1,10 +1,10 @@
 -- What is read behind a token that opens a level.
 use Rattle.std.proofs.Common.{◌≡◌, refl, ap, ◌∙◌, arith, ℕ, zero, suc, ◌-◌, ◌<◌, nat_le, Bool, true, false, ◌||◌, List, [], ◌∷◌, Result, Ok, Err}
-use Rattle.predictive_grammar.specs.Prediction.{begins}
-use Rattle.predictive_grammar.specs.Reading.{Syntax, Limit, Refused, mapped, choose, read, read_token, read_deeper}
-use Rattle.predictive_grammar.proofs.Steps.{ok_is}
-use Rattle.lake_model.specs.declared.expressions.Expr.{Expr}
-use Rattle.lake_model.specs.declared.expressions.Expr.TheVariants as expr
+use Rattle.grammar_laws.specs.Prediction.{begins}
+use Rattle.grammar_laws.specs.Reading.{Syntax, Limit, Refused, mapped, choose, read, read_token, read_deeper}
+use Rattle.grammar_laws.proofs.Steps.{ok_is}
+use Rattle.sql_model.specs.declared.expressions.Expr.{Expr}
+use Rattle.sql_model.specs.declared.expressions.Expr.TheVariants as expr
 use Rattle.sql_tokens.specs.declared.keywords.Keyword.TheVariants as keyword
 use Rattle.sql_tokens.specs.declared.lexemes.Lexed.{Lexed}
 use Rattle.sql_tokens.specs.declared.signs.Sign.TheVariants as sign

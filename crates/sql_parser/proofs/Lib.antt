@@ -9,6 +9,7 @@ pub mod Numbering
 pub mod Ranks
 pub mod ReadLines
 pub mod ScriptLaws
+pub mod ScriptsReady
 pub mod Stopping
 pub mod TokenBounds
 pub mod Yields

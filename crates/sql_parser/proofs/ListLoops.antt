@@ -1,11 +1,11 @@
 -- How a loop reads a list.
 use Rattle.std.proofs.Common.{◌≡◌, refl, sym, ap, ◌∙◌, arith, ℕ, zero, suc, pred, ◌-◌, ◌<◌, Bool, true, false, nat_le, List, [], ◌∷◌, ◌++◌, append_assoc, append-nil, Option, Some, None, option_map, Ok, Err, length}
-use Rattle.predictive_grammar.specs.Grammars.{many, listed, mark}
-use Rattle.predictive_grammar.specs.Phrases.{has_room, less_one}
-use Rattle.predictive_grammar.specs.Prediction.{empty_of, first_of, decides, begins, openers}
-use Rattle.predictive_grammar.specs.Reading.{Answer, Found, Refused, Reader, Limit, Syntax, mapped, choose, read, read_token, read_member, behind}
-use Rattle.predictive_grammar.proofs.Lists.{many_in_turn, list_ends, list_refused, takes_token}
-use Rattle.predictive_grammar.proofs.Steps.{ok_is}
+use Rattle.grammar_laws.specs.Grammars.{many, listed, mark}
+use Rattle.grammar_laws.specs.Phrases.{has_room, less_one}
+use Rattle.grammar_laws.specs.Prediction.{empty_of, first_of, decides, begins, openers}
+use Rattle.grammar_laws.specs.Reading.{Answer, Found, Refused, Reader, Limit, Syntax, mapped, choose, read, read_token, read_member, behind}
+use Rattle.grammar_laws.proofs.Lists.{many_in_turn, list_ends, list_refused, takes_token}
+use Rattle.grammar_laws.proofs.Steps.{ok_is}
 use Rattle.sql_tokens.specs.declared.lexemes.Lexed.{Lexed}
 use Rattle.sql_parser.specs.Classes.{Class, is_of, words}
 use Rattle.sql_parser.specs.ClassLaws.{classes}

@@ -1,9 +1,9 @@
 -- The lines of a script that is read: their sessions, and their statements in form.
 use Rattle.std.proofs.Common.{◌≡◌, refl, sym, arith, ℕ, ◌+◌, ◌<◌, ◌^◌, nat_le, leb-true, Bool, true, ◌&&◌, List, [], ◌∷◌, Option, Some, None, unwrap_or, length, drop, subst, Ok}
 use Rattle.std.specs.List.{list_all}
-use Rattle.lake_model.specs.declared.scripts.Step.{Step}
-use Rattle.lake_model.specs.declared.statements.Statement.{Statement}
-use Rattle.lake_model.specs.Form.{is_form}
+use Rattle.sql_model.specs.declared.scripts.Step.{Step}
+use Rattle.sql_model.specs.declared.statements.Statement.{Statement}
+use Rattle.sql_model.specs.Form.{is_form}
 use Rattle.sql_tokens.specs.declared.lexemes.Lexeme.{Lexeme}
 use Rattle.sql_tokens.specs.declared.lexemes.Lexeme.TheVariants as lexeme
 use Rattle.sql_tokens.specs.Scans.{scan_at}
@@ -12,7 +12,7 @@ use Rattle.sql_parser.specs.Ahead.{Ahead, reading, most_levels}
 use Rattle.sql_parser.specs.Classes.{a_session, fits, session_in}
 use Rattle.sql_parser.specs.Grammar
 use Rattle.sql_parser.specs.Grammar.{steps_from}
-use Rattle.lake_model.specs.ScriptStatements.{is_script_statement}
+use Rattle.sql_model.specs.ScriptStatements.{is_script_statement}
 use Rattle.sql_parser.specs.Scripts.{AllStatements, AreNumbered, AreNumberedFrom, all_of_step}
 use Rattle.sql_parser.proofs.InForm.{Members, is_ready, as_passes, reads_members, reads_statement}
 use Rattle.sql_parser.proofs.InFormExpressions.{Reads, Passes, is_session, is_bounded, bounded, if_any, reads_token, reads_any, reads_before, reads_maybe, passes_both, passes_later, both_true, both_parts}

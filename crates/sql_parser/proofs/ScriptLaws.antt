@@ -1,10 +1,10 @@
 -- What a script and a refusal are, against reading the tokens.
 use Rattle.std.proofs.Common.{◌≡◌, ◌⊎◌, inl, inr, refl, sym, ap, ◌∙◌, ℕ, List, [], ◌∷◌, Option, None, Some, Result, Ok, Err, length}
-use Rattle.predictive_grammar.specs.Definitions.{IsSentence, read_sentence_alone}
-use Rattle.predictive_grammar.specs.Laws.{IsFirstRefused}
-use Rattle.predictive_grammar.specs.Reading.{Refusal, Refused}
-use Rattle.predictive_grammar.proofs.Places.{reads_exactly_sentences, refuses_exactly_first_place}
-use Rattle.lake_model.specs.declared.scripts.Step.{Step}
+use Rattle.grammar_laws.specs.Definitions.{IsSentence, read_sentence_alone}
+use Rattle.grammar_laws.specs.Laws.{IsFirstRefused}
+use Rattle.grammar_laws.specs.Reading.{Refusal, Refused}
+use Rattle.grammar_laws.proofs.Places.{reads_exactly_sentences, refuses_exactly_first_place}
+use Rattle.sql_model.specs.declared.scripts.Step.{Step}
 use Rattle.sql_tokens.specs.declared.faults.BadToken.{BadToken}
 use Rattle.sql_tokens.specs.declared.faults.ScriptBad.{ScriptBad}
 use Rattle.sql_tokens.specs.declared.lexemes.Lexed.{Lexed}

@@ -1,6 +1,6 @@
 -- A part that was stopped stops what it is a part of.
 use Rattle.std.proofs.Common.{◌≡◌, Err}
-use Rattle.predictive_grammar.specs.Reading.{Answer, Refused}
+use Rattle.grammar_laws.specs.Reading.{Answer, Refused}
 use Rattle.sql_tokens.specs.declared.lexemes.Lexed.{Lexed}
 use Rattle.sql_parser.specs.declared.stops.Stop.{Stop}
 use Rattle.sql_parser.specs.declared.stops.Stop.TheVariants as stop

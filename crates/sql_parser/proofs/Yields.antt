@@ -1,11 +1,11 @@
 -- What the values have in common that a part of the grammar yields, part by part.
 use Rattle.std.proofs.Common.{◌≡◌, refl, ap, subst, arith, ℕ, zero, suc, ◌-◌, ◌<◌, ◌≤◌, Bool, true, false, ◌&&◌, List, [], ◌∷◌, Option, Some, None, Ok, length, inl, inr}
 use Rattle.std.specs.List.{list_all}
-use Rattle.predictive_grammar.specs.Grammars.{Words, Grammar, Rules, one, nothing, both, fork, either, many, as_, down, afresh}
-use Rattle.predictive_grammar.specs.Phrases.{has_room, less_one}
-use Rattle.predictive_grammar.specs.Prediction.{begins, first_of}
-use Rattle.predictive_grammar.specs.Reading.{Found, Reader, choose, read, read_members, behind, read_deeper}
-use Rattle.predictive_grammar.proofs.Steps.{ok_is, mapped_ok, in_turn_ok, token_ok, more_ok, chosen_one, with_budget_ok}
+use Rattle.grammar_laws.specs.Grammars.{Words, Grammar, Rules, one, nothing, both, fork, either, many, as_, down, afresh}
+use Rattle.grammar_laws.specs.Phrases.{has_room, less_one}
+use Rattle.grammar_laws.specs.Prediction.{begins, first_of}
+use Rattle.grammar_laws.specs.Reading.{Found, Reader, choose, read, read_members, behind, read_deeper}
+use Rattle.grammar_laws.proofs.Steps.{ok_is, mapped_ok, in_turn_ok, token_ok, more_ok, chosen_one, with_budget_ok}
 
 -- of the budget before, a value, and the budget left
 abbrev pub Says : Type 0 → Type 1

@@ -1,7 +1,7 @@
 -- What a parser has ahead, and how it reads a part of the grammar.
 use Rattle.std.specs.Prelude.{◌≡◌, ℕ, Bool, List, [], ◌∷◌, Option, Some, None, Result, Ok, Err, length}
-use Rattle.predictive_grammar.specs.Prediction.{begins}
-use Rattle.predictive_grammar.specs.Reading.{Answer, Refusal, Syntax, Limit, read}
+use Rattle.grammar_laws.specs.Prediction.{begins}
+use Rattle.grammar_laws.specs.Reading.{Answer, Refusal, Syntax, Limit, read}
 use Rattle.sql_tokens.specs.declared.faults.BadToken.{BadToken}
 use Rattle.sql_tokens.specs.declared.lexemes.Lexed.{Lexed}
 use Rattle.sql_tokens.specs.declared.lexemes.Lexeme.{Lexeme}

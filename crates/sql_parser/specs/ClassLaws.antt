@@ -2,7 +2,7 @@
 use Rattle.std.specs.Prelude.{◌≡◌, not, Bool, true, false, is_some, refl}
 use Rattle.std.proofs.Common.{sym, ap, ◌∙◌, eqb-true, le-leb, arith}
 use denote.Enum.Bare.{same_true, true_same}
-use Rattle.predictive_grammar.specs.Prediction.{Classes}
+use Rattle.grammar_laws.specs.Prediction.{Classes}
 use Rattle.sql_tokens.specs.contracts.keywords.Keyword.{the_type as keyword_type}
 use Rattle.sql_tokens.specs.contracts.signs.Sign.{the_type as sign_type}
 use Rattle.sql_tokens.specs.declared.keywords.Keyword.{Keyword}

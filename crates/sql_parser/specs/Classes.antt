@@ -1,10 +1,10 @@
 -- The classes of tokens that the grammar speaks of, and which of them have no token in common.
 use Rattle.std.specs.Prelude.{ℕ, ◌==◌, nat_le, not, Bool, true, false, List, [], Option, Some, None, is_some, unwrap_or}
 use denote.Enum.Bare.{sameb}
-use Rattle.predictive_grammar.specs.Grammars.{Words}
-use Rattle.lake_model.specs.declared.expressions.CmpOp.{CmpOp}
-use Rattle.lake_model.specs.declared.expressions.CmpOp.TheVariants.{Eq, Ne, Lt, Le, Gt, Ge}
-use Rattle.lake_model.specs.declared.expressions.Expr.{Expr}
+use Rattle.grammar_laws.specs.Grammars.{Words}
+use Rattle.sql_model.specs.declared.expressions.CmpOp.{CmpOp}
+use Rattle.sql_model.specs.declared.expressions.CmpOp.TheVariants.{Eq, Ne, Lt, Le, Gt, Ge}
+use Rattle.sql_model.specs.declared.expressions.Expr.{Expr}
 use Rattle.sql_tokens.specs.contracts.keywords.Keyword.{the_type as keyword_type}
 use Rattle.sql_tokens.specs.contracts.signs.Sign.{the_type as sign_type}
 use Rattle.sql_tokens.specs.declared.keywords.Keyword.{Keyword}

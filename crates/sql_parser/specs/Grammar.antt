@@ -1,32 +1,32 @@
 -- The grammar of scripts. Each production says which tokens it is of and which part of a statement they are.
 use Rattle.std.specs.Prelude.{ℕ, ◌+◌, Bool, true, false, List, [], ◌∷◌, Option, Some, None, map, fold, is_none, is_some, unwrap_or, pos, ◌-ℤ◌}
 use Rattle.std.specs.List.{list_any}
-use Rattle.predictive_grammar.specs.Grammars.{Grammar, Rules, nothing, either, many, as_, down, afresh, fork, plain, counted, mark, counted_mark, maybe, listed, ◌<<◌, ◌>>◌, ◌&◌}
+use Rattle.grammar_laws.specs.Grammars.{Grammar, Rules, nothing, either, many, as_, down, afresh, fork, plain, counted, mark, counted_mark, maybe, listed, ◌<<◌, ◌>>◌, ◌&◌}
 use Rattle.lake_values.specs.declared.schemas.ColType.{ColType}
 use Rattle.lake_values.specs.declared.schemas.ColType.TheVariants as type
 use Rattle.lake_values.specs.declared.schemas.Column.{Column}
 use Rattle.lake_values.specs.declared.values.Value.{Value}
 use Rattle.lake_values.specs.declared.values.Value.TheVariants.{Null, Int, Text}
-use Rattle.lake_model.specs.declared.expressions.Agg.{Agg}
-use Rattle.lake_model.specs.declared.expressions.Agg.TheVariants.{CountAll, Count, Sum as Total, Min, Max}
-use Rattle.lake_model.specs.declared.expressions.ArithOp.TheVariants.{Add, Sub, Mul}
-use Rattle.lake_model.specs.declared.expressions.CmpOp.{CmpOp}
-use Rattle.lake_model.specs.declared.expressions.Expr.{Expr}
-use Rattle.lake_model.specs.declared.expressions.Expr.TheVariants as expr
-use Rattle.lake_model.specs.declared.expressions.Item.{Item}
-use Rattle.lake_model.specs.declared.expressions.Item.TheVariants.{Plain, Agg as Aggregate}
-use Rattle.lake_model.specs.declared.expressions.Ref.{Ref}
-use Rattle.lake_model.specs.declared.scripts.Step.{Step}
-use Rattle.lake_model.specs.declared.scripts.Step.TheVariants.{One}
-use Rattle.lake_model.specs.declared.statements.OrderBy.{OrderBy}
-use Rattle.lake_model.specs.declared.statements.OrderBy.TheVariants.{Name as ByName, Number as ByNumber}
-use Rattle.lake_model.specs.declared.statements.OrderKey.{OrderKey}
-use Rattle.lake_model.specs.declared.statements.Select.{Select as Query}
-use Rattle.lake_model.specs.declared.statements.Set.{Set}
-use Rattle.lake_model.specs.declared.statements.SourceRef.{SourceRef}
-use Rattle.lake_model.specs.declared.statements.Statement.{Statement}
-use Rattle.lake_model.specs.declared.statements.Statement.TheVariants.{Create, Begin, Commit, RollBack, Insert, Select, Update, Delete}
-use Rattle.lake_model.specs.BoundForms.{is_aggregate}
+use Rattle.sql_model.specs.declared.expressions.Agg.{Agg}
+use Rattle.sql_model.specs.declared.expressions.Agg.TheVariants.{CountAll, Count, Sum as Total, Min, Max}
+use Rattle.sql_model.specs.declared.expressions.ArithOp.TheVariants.{Add, Sub, Mul}
+use Rattle.sql_model.specs.declared.expressions.CmpOp.{CmpOp}
+use Rattle.sql_model.specs.declared.expressions.Expr.{Expr}
+use Rattle.sql_model.specs.declared.expressions.Expr.TheVariants as expr
+use Rattle.sql_model.specs.declared.expressions.Item.{Item}
+use Rattle.sql_model.specs.declared.expressions.Item.TheVariants.{Plain, Agg as Aggregate}
+use Rattle.sql_model.specs.declared.expressions.Ref.{Ref}
+use Rattle.sql_model.specs.declared.scripts.Step.{Step}
+use Rattle.sql_model.specs.declared.scripts.Step.TheVariants.{One}
+use Rattle.sql_model.specs.declared.statements.OrderBy.{OrderBy}
+use Rattle.sql_model.specs.declared.statements.OrderBy.TheVariants.{Name as ByName, Number as ByNumber}
+use Rattle.sql_model.specs.declared.statements.OrderKey.{OrderKey}
+use Rattle.sql_model.specs.declared.statements.Select.{Select as Query}
+use Rattle.sql_model.specs.declared.statements.Set.{Set}
+use Rattle.sql_model.specs.declared.statements.SourceRef.{SourceRef}
+use Rattle.sql_model.specs.declared.statements.Statement.{Statement}
+use Rattle.sql_model.specs.declared.statements.Statement.TheVariants.{Create, Begin, Commit, RollBack, Insert, Select, Update, Delete}
+use Rattle.sql_model.specs.BoundForms.{is_aggregate}
 use Rattle.sql_tokens.specs.declared.keywords.Keyword.{Keyword}
 use Rattle.sql_tokens.specs.declared.keywords.Keyword.TheVariants as keyword
 use Rattle.sql_tokens.specs.declared.signs.Sign.{Sign}
@@ -159,7 +159,7 @@ null_check = as_ is_some (key_operator keyword.Is >> maybe (key_operator keyword
 abbrev pub compared : CmpOp → Expr → Expr → Expr
 compared op right left = expr.Compare op left right
 
--- what stands behind the left side of a test
+-- what stands behind the left side of a predicate
 unfoldable pub tested : Form (Expr → Expr)
 tested = as_ (λ x. compared x.0 x.1) (comparison & sum) <|> as_ null_test null_check
 
@@ -167,15 +167,15 @@ abbrev pub applied : Expr → Option (Expr → Expr) → Expr
 applied e None = e
 applied e (Some f) = f e
 
-unfoldable pub test : Form Expr
-test = as_ (λ x. applied x.0 x.1) (sum & maybe tested)
+unfoldable pub predicate : Form Expr
+predicate = as_ (λ x. applied x.0 x.1) (sum & maybe tested)
 
 -- what NOT turns, one level deeper
 unfoldable pub negated : Form Expr
 negated = as_ expr.Not (down 1 (the_keyword keyword.Not) a_negation)
 
 unfoldable pub negation : Form Expr
-negation = negated <|> test
+negation = negated <|> predicate
 
 unfoldable pub conjunction : Form Expr
 conjunction = chain_of (binary_op Conjunction) negation

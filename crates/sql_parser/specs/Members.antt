@@ -1,8 +1,8 @@
 -- The parts of statements that stand in lists: one token tells how to go on in them, and each has a token.
 use Rattle.std.specs.Prelude.{◌≡◌, true, None, refl}
-use Rattle.predictive_grammar.specs.Prediction.{decides, empty_of}
+use Rattle.grammar_laws.specs.Prediction.{decides, empty_of}
 use Rattle.sql_parser.specs.ClassLaws.{classes}
-use Rattle.sql_parser.specs.Grammar.{literal, reference, parenthesized, factor, binary_op, product, sum, null_check, tested, test, negated, negation, conjunction, disjunction, expression, where_clause, column_type, column, columns, distribution, create, tuple, insert, alias, counted_rows, count, argument, aggregate, item, second_name, source, same, join, group_clause, items, head, grouped, ungrouped, joins, body_behind_aggregate, body, order_by, direction, order_key, order_clause, limit_clause, tail, select, set, update, delete, begin, commit, roll_back, transaction, statement, session_of_line, line}
+use Rattle.sql_parser.specs.Grammar.{literal, reference, parenthesized, factor, binary_op, product, sum, null_check, tested, predicate, negated, negation, conjunction, disjunction, expression, where_clause, column_type, column, columns, distribution, create, tuple, insert, alias, counted_rows, count, argument, aggregate, item, second_name, source, same, join, group_clause, items, head, grouped, ungrouped, joins, body_behind_aggregate, body, order_by, direction, order_key, order_clause, limit_clause, tail, select, set, update, delete, begin, commit, roll_back, transaction, statement, session_of_line, line}
 use Rattle.sql_parser.specs.Language.{ends}
 
 pub column_decided : decides classes ends column ≡ true
@@ -30,11 +30,11 @@ unfolding tuple literal
 tuple_has_token = refl
 
 pub item_decided : decides classes ends item ≡ true
-unfolding item aggregate count argument alias counted_rows literal reference parenthesized factor binary_op product sum null_check tested test negated negation conjunction disjunction expression
+unfolding item aggregate count argument alias counted_rows literal reference parenthesized factor binary_op product sum null_check tested predicate negated negation conjunction disjunction expression
 item_decided = refl
 
 pub item_has_token : empty_of item ≡ None
-unfolding item aggregate count argument alias counted_rows literal reference parenthesized factor binary_op product sum null_check tested test negated negation conjunction disjunction expression
+unfolding item aggregate count argument alias counted_rows literal reference parenthesized factor binary_op product sum null_check tested predicate negated negation conjunction disjunction expression
 item_has_token = refl
 
 pub same_decided : decides classes ends same ≡ true
@@ -70,17 +70,17 @@ unfolding order_key order_by direction
 order_key_has_token = refl
 
 pub set_decided : decides classes ends set ≡ true
-unfolding set literal reference parenthesized factor binary_op product sum null_check tested test negated negation conjunction disjunction expression
+unfolding set literal reference parenthesized factor binary_op product sum null_check tested predicate negated negation conjunction disjunction expression
 set_decided = refl
 
 pub set_has_token : empty_of set ≡ None
-unfolding set literal reference parenthesized factor binary_op product sum null_check tested test negated negation conjunction disjunction expression
+unfolding set literal reference parenthesized factor binary_op product sum null_check tested predicate negated negation conjunction disjunction expression
 set_has_token = refl
 
 pub line_decided : decides classes ends line ≡ true
-unfolding literal reference parenthesized factor binary_op product sum null_check tested test negated negation conjunction disjunction expression where_clause column_type column columns distribution create tuple insert alias counted_rows count argument aggregate item second_name source same join group_clause items head grouped ungrouped joins body_behind_aggregate body order_by direction order_key order_clause limit_clause tail select set update delete begin commit roll_back transaction statement session_of_line line
+unfolding literal reference parenthesized factor binary_op product sum null_check tested predicate negated negation conjunction disjunction expression where_clause column_type column columns distribution create tuple insert alias counted_rows count argument aggregate item second_name source same join group_clause items head grouped ungrouped joins body_behind_aggregate body order_by direction order_key order_clause limit_clause tail select set update delete begin commit roll_back transaction statement session_of_line line
 line_decided = refl
 
 pub line_has_token : empty_of line ≡ None
-unfolding literal reference parenthesized factor binary_op product sum null_check tested test negated negation conjunction disjunction expression where_clause column_type column columns distribution create tuple insert alias counted_rows count argument aggregate item second_name source same join group_clause items head grouped ungrouped joins body_behind_aggregate body order_by direction order_key order_clause limit_clause tail select set update delete begin commit roll_back transaction statement session_of_line line
+unfolding literal reference parenthesized factor binary_op product sum null_check tested predicate negated negation conjunction disjunction expression where_clause column_type column columns distribution create tuple insert alias counted_rows count argument aggregate item second_name source same join group_clause items head grouped ungrouped joins body_behind_aggregate body order_by direction order_key order_clause limit_clause tail select set update delete begin commit roll_back transaction statement session_of_line line
 line_has_token = refl

@@ -1,6 +1,6 @@
 -- Where a script is refused, and why.
 use Rattle.std.specs.Prelude.{ℕ, nat_le, not, ◌&&◌, Bool, true, false, if◌then◌else◌, List, [], ◌∷◌, Option, None, Some, is_none}
-use Rattle.predictive_grammar.specs.Reading.{Refusal, Syntax, Limit}
+use Rattle.grammar_laws.specs.Reading.{Refusal, Syntax, Limit}
 use Rattle.sql_tokens.specs.declared.faults.BadToken.{BadToken}
 use Rattle.sql_tokens.specs.declared.faults.ParseKind.{ParseKind}
 use Rattle.sql_tokens.specs.declared.faults.ParseKind.TheVariants as bad

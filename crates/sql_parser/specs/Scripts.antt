@@ -1,12 +1,12 @@
 -- What a script is: bytes whose tokens are a sentence of the grammar, and where bytes that are none are refused.
 use Rattle.std.specs.Prelude.{◌≡◌, ◌⊎◌, ◌↔◌, ◌+◌, ◌<◌, ◌≤◌, ◌^◌, ℕ, List, [], ◌∷◌, None, Some, Result, Ok, Err, length, Bool, true}
 use Rattle.std.specs.List.{list_all}
-use Rattle.predictive_grammar.specs.Definitions.{IsSentence, read_sentence_alone}
-use Rattle.predictive_grammar.specs.Laws.{IsFirstRefused}
-use Rattle.predictive_grammar.specs.Reading.{Refusal, Refused}
-use Rattle.lake_model.specs.declared.scripts.Step.{Step}
-use Rattle.lake_model.specs.declared.scripts.Step.TheVariants.{One, Parallel}
-use Rattle.lake_model.specs.declared.statements.Statement.{Statement}
+use Rattle.grammar_laws.specs.Definitions.{IsSentence, read_sentence_alone}
+use Rattle.grammar_laws.specs.Laws.{IsFirstRefused}
+use Rattle.grammar_laws.specs.Reading.{Refusal, Refused}
+use Rattle.sql_model.specs.declared.scripts.Step.{Step}
+use Rattle.sql_model.specs.declared.scripts.Step.TheVariants.{One, Parallel}
+use Rattle.sql_model.specs.declared.statements.Statement.{Statement}
 use Rattle.sql_tokens.specs.declared.faults.BadToken.{BadToken}
 use Rattle.sql_tokens.specs.declared.faults.ScriptBad.{ScriptBad}
 use Rattle.sql_tokens.specs.declared.lexemes.Lexed.{Lexed}
@@ -87,3 +87,7 @@ HasOneAnswer =
     ((bytes : List ℕ) (x y : List Step) → IsScript bytes x → IsScript bytes y → x ≡ y)
     × ((bytes : List ℕ) (x y : ScriptBad) → IsRefused bytes x → IsRefused bytes y → x ≡ y)
     × ((bytes : List ℕ) (x : List Step) (y : ScriptBad) → IsScript bytes x → IsRefused bytes y → ⊥)
+
+-- The steps of every script are single statements of the sessions 1 to 16, numbered from 1.
+abbrev pub NumbersScripts : Type 0
+NumbersScripts = (bytes : List ℕ) (steps : List Step) → script_of bytes ≡ Ok steps → AreNumbered steps

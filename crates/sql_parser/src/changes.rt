@@ -6,7 +6,7 @@ use crate::expressions::{expression, where_clause};
 use crate::lists::{MOST_MEMBERS, Member, Separator, list};
 use crate::parser::Parser;
 use crate::stops::Stop;
-use lake_model::{Set, Statement};
+use sql_model::{Set, Statement};
 use sql_tokens::{Keyword, Sign};
 
 /// An assignment of an UPDATE.

@@ -1,15 +1,15 @@
 ghost use Rattle.std.specs.Prelude.{◌≡◌, ◌≤◌, IfOk};
-ghost use Rattle.predictive_grammar.specs.Grammars.{maybe};
-ghost use Rattle.predictive_grammar.specs.Prediction.{first_of};
-ghost use Rattle.predictive_grammar.specs.Reading.{mapped};
+ghost use Rattle.grammar_laws.specs.Grammars.{maybe};
+ghost use Rattle.grammar_laws.specs.Prediction.{first_of};
+ghost use Rattle.grammar_laws.specs.Reading.{mapped};
 ghost use Rattle.sql_parser.specs.Ahead.{Gives, reading, most_levels, is_at};
 ghost use Rattle.sql_parser.specs.Grammar as grammar;
 
 use crate::parser::Parser;
 use crate::stops::{Limits, Stop};
 use crate::values::{is_at_literal, literal, reference};
-use lake_model::{ArithOp, CmpOp, Expr};
 use lake_values::NoMemory;
+use sql_model::{ArithOp, CmpOp, Expr};
 use sql_tokens::{Keyword, Sign};
 use sqlite_items::Boxed;
 use std::alloc::Global;
@@ -209,7 +209,7 @@ fn parenthesized(parser: &mut Parser<'_>, levels: u32) -> Result<Expr, Stop>
     Ok(inner)
 }
 
-/// A test, behind NOT or not.
+/// A predicate, behind NOT or not.
 #[cycle(expressions)]
 #[tactic(auto, unfolding(crate::specs::Grammar::negation, crate::specs::Grammar::negated))]
 fn negation(parser: &mut Parser<'_>, levels: u32) -> Result<Expr, Stop>
@@ -219,7 +219,7 @@ fn negation(parser: &mut Parser<'_>, levels: u32) -> Result<Expr, Stop>
     if parser.is_at_keyword(Keyword::Not) {
         negated(parser, levels)
     } else {
-        test(parser, levels)
+        predicate(parser, levels)
     }
 }
 
@@ -242,16 +242,16 @@ fn negated(parser: &mut Parser<'_>, levels: u32) -> Result<Expr, Stop>
 
 /// A sum, compared with another or with NULL where that follows.
 #[cycle(expressions)]
-#[tactic(auto, unfolding(crate::specs::Grammar::test))]
-fn test(parser: &mut Parser<'_>, levels: u32) -> Result<Expr, Stop>
-    ensures reads { Gives (λ x. x) result parser.new (reading levels grammar.test parser.old) }
+#[tactic(auto, unfolding(crate::specs::Grammar::predicate))]
+fn predicate(parser: &mut Parser<'_>, levels: u32) -> Result<Expr, Stop>
+    ensures reads { Gives (λ x. x) result parser.new (reading levels grammar.predicate parser.old) }
     ensures ending { parser.new.ending ≡ parser.old.ending }
 {
     let left = sum(parser, levels)?;
     tested(parser, levels, left)
 }
 
-/// The test of this left side, or the left side where none follows.
+/// The predicate of this left side, or the left side where none follows.
 #[cycle(expressions)]
 #[tactic(auto, unfolding(crate::specs::Grammar::tested, crate::specs::Grammar::null_check))]
 fn tested(parser: &mut Parser<'_>, levels: u32, left: Expr) -> Result<Expr, Stop>
@@ -297,7 +297,7 @@ pub fn where_clause(parser: &mut Parser<'_>) -> Result<Option<Expr>, Stop>
 }
 
 /// Whether an expression can begin with the next token.
-#[tactic(auto, unfolding(crate::specs::Grammar::expression, crate::specs::Grammar::disjunction, crate::specs::Grammar::conjunction, crate::specs::Grammar::negation, crate::specs::Grammar::negated, crate::specs::Grammar::test, crate::specs::Grammar::sum, crate::specs::Grammar::product, crate::specs::Grammar::factor, crate::specs::Grammar::reference, crate::specs::Grammar::parenthesized, crate::specs::Grammar::literal))]
+#[tactic(auto, unfolding(crate::specs::Grammar::expression, crate::specs::Grammar::disjunction, crate::specs::Grammar::conjunction, crate::specs::Grammar::negation, crate::specs::Grammar::negated, crate::specs::Grammar::predicate, crate::specs::Grammar::sum, crate::specs::Grammar::product, crate::specs::Grammar::factor, crate::specs::Grammar::reference, crate::specs::Grammar::parenthesized, crate::specs::Grammar::literal))]
 pub fn is_at_expression(parser: &Parser<'_>) -> bool
     ensures { result ≡ is_at (first_of grammar.expression) parser.now }
 {

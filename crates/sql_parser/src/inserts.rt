@@ -6,8 +6,8 @@ use crate::lists::{MOST_MEMBERS, Member, Separator, list, list_with_capacity};
 use crate::parser::Parser;
 use crate::stops::Stop;
 use crate::values::{is_at_literal, literal};
-use lake_model::Statement;
 use lake_values::{Row, Rows, Value};
+use sql_model::Statement;
 use sql_tokens::{Keyword, Sign};
 
 /// A value of a tuple.

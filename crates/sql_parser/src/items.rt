@@ -1,5 +1,5 @@
 ghost use Rattle.std.specs.Prelude.{◌≡◌};
-ghost use Rattle.predictive_grammar.specs.Prediction.{first_of};
+ghost use Rattle.grammar_laws.specs.Prediction.{first_of};
 ghost use Rattle.sql_parser.specs.Ahead.{Gives, reading, most_levels, is_at};
 ghost use Rattle.sql_parser.specs.Grammar as grammar;
 
@@ -7,8 +7,8 @@ use crate::expressions::{expression, is_at_expression};
 use crate::lists::Member;
 use crate::parser::Parser;
 use crate::stops::Stop;
-use lake_model::{Agg, Expr, Item};
 use lake_values::Text;
+use sql_model::{Agg, Expr, Item};
 use sql_tokens::{Keyword, Sign};
 
 /// The name that AS gives, where one stands.

@@ -1,8 +1,8 @@
 ghost use Rattle.std.specs.Prelude.{◌≡◌, ◌∷◌, [], Some, None};
-ghost use Rattle.predictive_grammar.specs.Grammars.{listed, many, mark};
-ghost use Rattle.predictive_grammar.specs.Phrases.{has_room, less_one};
-ghost use Rattle.predictive_grammar.specs.Prediction.{begins, first_of};
-ghost use Rattle.predictive_grammar.specs.Reading.{read, read_member};
+ghost use Rattle.grammar_laws.specs.Grammars.{listed, many, mark};
+ghost use Rattle.grammar_laws.specs.Phrases.{has_room, less_one};
+ghost use Rattle.grammar_laws.specs.Prediction.{begins, first_of};
+ghost use Rattle.grammar_laws.specs.Reading.{read, read_member};
 ghost use Rattle.sql_parser.specs.Ahead.{Gives, reading, most_levels, is_at};
 ghost use Rattle.sql_parser.specs.Classes.{words};
 ghost use Rattle.sql_parser.specs.Grammar.{rules};
@@ -19,7 +19,7 @@ pub const MOST_MEMBERS: u32 = 64;
 /// A part of a statement that stands in lists.
 pub trait Member {
     ghost use Rattle.std.specs.Prelude.{◌≡◌, true, None};
-    ghost use Rattle.predictive_grammar.specs.Prediction.{decides, empty_of, first_of};
+    ghost use Rattle.grammar_laws.specs.Prediction.{decides, empty_of, first_of};
     ghost use Rattle.sql_parser.specs.Ahead.{Gives, reading, most_levels, is_at};
     ghost use Rattle.sql_parser.specs.ClassLaws.{classes};
     ghost use Rattle.sql_parser.specs.Grammar.{Form};

@@ -1,6 +1,6 @@
 ghost use Rattle.std.specs.Prelude.{◌≡◌, ◌≤◌, ◌∷◌, [], ℕ, List, None, Some, IfOk, OnOk, OnErr, IsSome, length};
 ghost use Rattle.std.specs.Option.{option_copied};
-ghost use Rattle.predictive_grammar.specs.Prediction.{begins};
+ghost use Rattle.grammar_laws.specs.Prediction.{begins};
 ghost use Rattle.sql_tokens.specs.Scans.{IsBehind, begun, scan_at};
 ghost use Rattle.sql_parser.specs.Classes.{comparison_of, a_name, a_text, a_number, a_session, a_comparison, the_keyword, the_sign, words};
 ghost use Rattle.sql_parser.specs.Ahead.{Gives, reading, is_at, refusal_of, next_lexeme_in, behind_first};
@@ -9,8 +9,8 @@ ghost use Rattle.sql_parser.specs.Grammar.{key, the, operator, key_operator, nam
 
 use crate::stops::{Limits, Stop};
 use crate::values::MOST_NUMBER;
-use lake_model::CmpOp;
 use lake_values::{NoMemory, Text};
+use sql_model::CmpOp;
 use sql_tokens::{BadToken, Keyword, Lexeme, Next, ParseKind, Sign, next_lexeme};
 use std::alloc::Global;
 use std::marker::Model;

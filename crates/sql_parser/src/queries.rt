@@ -1,7 +1,7 @@
 ghost use Rattle.std.specs.Prelude.{◌≡◌, ◌∷◌, [], map, IfOk};
 ghost use Rattle.std.specs.List.{list_any};
-ghost use Rattle.lake_model.specs.BoundForms.{is_aggregate};
-ghost use Rattle.predictive_grammar.specs.Reading.{mapped};
+ghost use Rattle.sql_model.specs.BoundForms.{is_aggregate};
+ghost use Rattle.grammar_laws.specs.Reading.{mapped};
 ghost use Rattle.sql_parser.specs.Ahead.{Gives, reading, most_levels, is_at};
 ghost use Rattle.sql_parser.specs.Grammar as grammar;
 
@@ -12,11 +12,11 @@ use crate::parser::Parser;
 use crate::selects::{Body, Head, Join, Joins, Tail};
 use crate::stops::Stop;
 use crate::values::{MOST_NUMBER, reference};
-use lake_model::{
+use lake_values::{Listed, NoMemory, Text};
+use sql_model::{
     Item, Items, Ons, OrderBy, OrderKey, OrderKeys, Ref, Refs, Select, SourceRef, Sources,
     Statement,
 };
-use lake_values::{Listed, NoMemory, Text};
 use sql_tokens::{Keyword, Sign};
 use std::alloc::Global;
 

@@ -1,11 +1,11 @@
 ghost use Rattle.std.specs.Prelude.{◌≡◌, ◌≤◌, ◌<◌, ◌+◌, ◌^◌, length, vec_len, IfOk, None};
-ghost use Rattle.predictive_grammar.specs.Prediction.{first_of};
+ghost use Rattle.grammar_laws.specs.Prediction.{first_of};
 ghost use Rattle.sql_tokens.specs.declared.faults.ParseFault.TheVariants as fault;
 ghost use Rattle.sql_parser.specs.Ahead.{Gives, reading, most_levels, is_at, refusal_of};
 ghost use Rattle.sql_parser.specs.Grammar as grammar;
 ghost use Rattle.sql_parser.specs.Refusals.{refused_next, fault_of};
-ghost use Rattle.lake_model.specs.Form.{is_form};
-ghost use Rattle.lake_model.specs.ScriptStatements.{is_script_statement};
+ghost use Rattle.sql_model.specs.Form.{is_form};
+ghost use Rattle.sql_model.specs.ScriptStatements.{is_script_statement};
 ghost use Rattle.sql_parser.specs.Scripts.{AllStatements, AreNumbered, script_of};
 ghost use Rattle.sql_tokens.specs.Places.{bad_of};
 
@@ -17,8 +17,8 @@ use crate::queries::select;
 use crate::stops::{Limits, Stop};
 use crate::tables::create;
 use crate::transactions::{is_at_transaction, transaction};
-use lake_model::{Numbered, Script, Statement, Step};
 use lake_values::{Listed, NoMemory};
+use sql_model::{Numbered, Script, Statement, Step};
 use sql_tokens::{Keyword, ParseFault, Sign, script_bad};
 use std::alloc::Global;
 

@@ -1,5 +1,5 @@
-use lake_model::{Expr, Items, OrderKeys, Ref, RefPairs, Refs, SourceRef};
 use lake_values::Listed;
+use sql_model::{Expr, Items, OrderKeys, Ref, RefPairs, Refs, SourceRef};
 
 /// A table that a query joins, and the equalities of its ON.
 #[derive(Debug, Drop)]

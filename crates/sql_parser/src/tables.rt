@@ -5,8 +5,8 @@ ghost use Rattle.sql_parser.specs.Grammar as grammar;
 use crate::lists::{MOST_MEMBERS, Member, Separator, list};
 use crate::parser::Parser;
 use crate::stops::Stop;
-use lake_model::Statement;
 use lake_values::{ColType, Column, Columns, Text};
+use sql_model::Statement;
 use sql_tokens::{Keyword, Sign};
 
 #[tactic(auto, unfolding(crate::specs::Grammar::column_type))]

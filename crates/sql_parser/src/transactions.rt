@@ -1,11 +1,11 @@
 ghost use Rattle.std.specs.Prelude.{◌≡◌};
-ghost use Rattle.predictive_grammar.specs.Prediction.{first_of};
+ghost use Rattle.grammar_laws.specs.Prediction.{first_of};
 ghost use Rattle.sql_parser.specs.Ahead.{Gives, reading, most_levels, is_at};
 ghost use Rattle.sql_parser.specs.Grammar as grammar;
 
 use crate::parser::Parser;
 use crate::stops::Stop;
-use lake_model::Statement;
+use sql_model::Statement;
 use sql_tokens::Keyword;
 
 /// BEGIN, behind which the word TRANSACTION may stand.

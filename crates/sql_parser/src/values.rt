@@ -1,12 +1,12 @@
 ghost use Rattle.std.specs.Prelude.{◌≡◌, ◌≤◌, ◌-ℤ◌, pos};
-ghost use Rattle.predictive_grammar.specs.Prediction.{first_of};
+ghost use Rattle.grammar_laws.specs.Prediction.{first_of};
 ghost use Rattle.sql_parser.specs.Ahead.{Gives, reading, is_at};
 ghost use Rattle.sql_parser.specs.Grammar as grammar;
 
 use crate::parser::Parser;
 use crate::stops::Stop;
-use lake_model::Ref;
 use lake_values::Value;
+use sql_model::Ref;
 use sql_tokens::{Keyword, Sign};
 
 /// The largest number of a value that stands without a minus.

@@ -2,6 +2,12 @@
 //! the places at which bytes are no token.
 //!
 //! `specs/Tokens` says what stands at the front of bytes, and `specs/Scans` what all tokens of a script are.
+//!
+//! What the clauses say: `tokens` answers exactly the tokens of the bytes (`tokens`,
+//! `none_refused`), in order and without overlap (`in_order`), or exactly the first bytes that are
+//! none, and why (`refused`, `kind`); `next_lexeme` the same of the token that stands next.
+//! `script_bad` is exactly the line and the column of a place. Laws: each keyword and each sign
+//! reads back from its text, and each text with its quotes doubled is read as it was.
 #![tactic(auto)]
 
 mod bytes;
@@ -26,6 +32,3 @@ pub use listing::{Token, TokenKind, tokens};
 pub use next::next_lexeme;
 pub use places::script_bad;
 pub use signs::Sign;
-
-#[cfg(test)]
-mod tests;

@@ -6,17 +6,18 @@ use Rattle.std.specs.List.{AllByRecursion, flat_map, list_any}
 use Rattle.std.specs.Option.{option_map_or}
 use Rattle.lake_values.specs.Schemas.{TableColumns}
 use Rattle.lake_values.specs.declared.values.Value.{Value}
-use Rattle.lake_model.specs.declared.entries.Added.{Added}
-use Rattle.lake_model.specs.declared.entries.Mark.{Mark}
-use Rattle.lake_model.specs.declared.entries.MarkedRow.{MarkedRow}
-use Rattle.lake_model.specs.Changes.{added_to, applied, changed_table, marked, marked_cmp, removed_from, without}
-use Rattle.lake_model.specs.Conflicts.{numbers}
-use Rattle.lake_model.specs.Versions.{Table, Tables, same_text, table_of, has_table}
-use Rattle.lake_model.proofs.Lists.{all_append, all_filter}
-use Rattle.lake_model.proofs.Texts.{same_text_is, same_text_self, same_text_sym}
+use Rattle.sql_model.specs.declared.changes.Added.{Added}
+use Rattle.sql_model.specs.declared.changes.Mark.{Mark}
+use Rattle.sql_model.specs.declared.changes.MarkedRow.{MarkedRow}
+use Rattle.sql_model.specs.Changes.{added_to, applied, changed_table, marked, marked_cmp, removed_from, without}
+use Rattle.sql_model.specs.Listing.{numbers}
+use Rattle.sql_model.specs.Versions.{Table, Tables, table_of, has_table}
+use Rattle.lake_values.specs.Texts.{same_text}
+use Rattle.sql_model.proofs.Lists.{all_append, all_filter}
+use Rattle.lake_values.proofs.SameTexts.{same_text_is, same_text_self, same_text_sym}
 use Rattle.table_history.specs.declared.kept.Kept.{Kept}
 use Rattle.table_history.specs.declared.stores.Store.{Store}
-use Rattle.table_history.specs.Histories.{GrowsBy, History, IsIn, change_from, has_room, last_of, newest_of, tables_in}
+use Rattle.table_history.specs.Histories.{GrowsBy, History, IsIn, change_from, has_spare_rows, last_of, newest_of, tables_in}
 use Rattle.table_history.specs.Stores.{HaveOwnNames, IsKept, IsNewName, IsStampedBy, IsStoredBy, Stored, cleared_if, cleared_store, gone, grown_store, grown_stores, history_of, is_before, is_there, kept_by, kept_for, marked_as, rows_at, stamped, spare_at, stamped_store, stands, stored, table_at, tables_at}
 use Rattle.table_history.specs.Strikes.{less, same_marked, struck, times}
 use Rattle.table_history.proofs.PlaceLemmas.{IsAt, IsNowhere, first_within, found_at, found_nowhere}
@@ -606,7 +607,7 @@ created_grows name schema first last ss spares spares' kept =
     above : (v l : ℕ) → v ≤ l → nat_le (l + 1) v ≡ false
     above v l h = grind arith
 
-pub created_room : (name : List ℕ) (rows : ℕ) (xs : List Store) (s : Store) → IsNewName name (map stored xs) → s.name ≡ name → vec_len s.rows ≡ 0 → rows ≤ vec_capacity s.rows → has_room (map spare_at (xs ++ s ∷ [])) name rows ≡ true
+pub created_room : (name : List ℕ) (rows : ℕ) (xs : List Store) (s : Store) → IsNewName name (map stored xs) → s.name ≡ name → vec_len s.rows ≡ 0 → rows ≤ vec_capacity s.rows → has_spare_rows (map spare_at (xs ++ s ∷ [])) name rows ≡ true
 created_room name rows [] s new is none enough =
     let same : same_text s.name name ≡ true = ap (λ (n : List ℕ). same_text n name) is ∙ same_text_self name in
     rw same (ap (λ (n : ℕ). nat_le rows (vec_capacity s.rows - n)) none ∙ fits rows (vec_capacity s.rows) enough)
@@ -615,11 +616,11 @@ created_room name rows [] s new is none enough =
     fits r c h = grind arith
 created_room name rows (x ∷ xs) s new is none enough = rw new.0 (created_room name rows xs s new.1 is none enough)
 
-pub created_others : (name : List ℕ) (rows : ℕ) (xs : List Store) (s : Store) → same_text s.name name ≡ false → has_room (map spare_at xs) name rows ≡ true → has_room (map spare_at (xs ++ s ∷ [])) name rows ≡ true
+pub created_others : (name : List ℕ) (rows : ℕ) (xs : List Store) (s : Store) → same_text s.name name ≡ false → has_spare_rows (map spare_at xs) name rows ≡ true → has_spare_rows (map spare_at (xs ++ s ∷ [])) name rows ≡ true
 created_others name rows [] s differ room = rw differ refl
 created_others name rows (x ∷ xs) s differ room =
-    elim (same_text x.name name) as (λ b. (if b then nat_le rows (vec_capacity x.rows - vec_len x.rows) else has_room (map spare_at xs) name rows) ≡ true →
-    (if b then nat_le rows (vec_capacity x.rows - vec_len x.rows) else has_room (map spare_at (xs ++ s ∷ [])) name rows) ≡ true) [
+    elim (same_text x.name name) as (λ b. (if b then nat_le rows (vec_capacity x.rows - vec_len x.rows) else has_spare_rows (map spare_at xs) name rows) ≡ true →
+    (if b then nat_le rows (vec_capacity x.rows - vec_len x.rows) else has_spare_rows (map spare_at (xs ++ s ∷ [])) name rows) ≡ true) [
       | true ↦ λ e. e
       | false ↦ λ e. created_others name rows xs s differ e
     ] room

@@ -6,10 +6,10 @@ use Rattle.std.proofs.lemmas.Bool.{leb-false}
 use Rattle.std.proofs.lemmas.List.Quantifiers.{position-Some}
 use Rattle.std.proofs.lemmas.List.{map_push, append_assoc, drop-set-lt, drop_more, take_more_set}
 use Rattle.std.proofs.Math.Seq.{map-set_same}
-use Rattle.lake_model.specs.Versions.{same_text}
-use Rattle.lake_model.proofs.Texts.{same_text_is, same_text_self}
+use Rattle.lake_values.specs.Texts.{same_text}
+use Rattle.lake_values.proofs.SameTexts.{same_text_is, same_text_self}
 use Rattle.table_history.specs.declared.stores.Store.{Store}
-use Rattle.table_history.specs.Histories.{has_room}
+use Rattle.table_history.specs.Histories.{has_spare_rows}
 use Rattle.table_history.specs.Stores.{Stored, HaveOwnNames, IsNewName, stored, spare_at}
 
 -- the first member that passes a test stands at the place
@@ -93,11 +93,11 @@ put_nowhere f name stays (x ∷ xs) none = λ i. sym (stays (stored x) none.0) i
 
 -- the room of a store
 
-pub room_nowhere : (name : List ℕ) (xs : List Store) (rows : ℕ) → IsNowhere name xs → has_room (map spare_at xs) name rows ≡ true
+pub room_nowhere : (name : List ℕ) (xs : List Store) (rows : ℕ) → IsNowhere name xs → has_spare_rows (map spare_at xs) name rows ≡ true
 room_nowhere name [] rows none = refl
 room_nowhere name (x ∷ xs) rows none = rw none.0 (room_nowhere name xs rows none.1)
 
-pub room_at : (name : List ℕ) (xs : List Store) (place rows : ℕ) (s : Store) → IsAt name xs place → s ≡ get_or xs place s → has_room (map spare_at xs) name rows ≡ nat_le rows (vec_capacity s.rows - vec_len s.rows)
+pub room_at : (name : List ℕ) (xs : List Store) (place rows : ℕ) (s : Store) → IsAt name xs place → s ≡ get_or xs place s → has_spare_rows (map spare_at xs) name rows ≡ nat_le rows (vec_capacity s.rows - vec_len s.rows)
 room_at name [] place rows s at is = absurd at
 room_at name (x ∷ xs) zero rows s at is = rw at (ap (λ (y : Store). nat_le rows (vec_capacity y.rows - vec_len y.rows)) (sym is))
 room_at name (x ∷ xs) (suc place) rows s at is = rw at.0 (room_at name xs place rows s at.1 is)
@@ -105,7 +105,7 @@ room_at name (x ∷ xs) (suc place) rows s at is = rw at.0 (room_at name xs plac
 -- where the store at a place has a name, another of this name at its place changes only the room for that name
 
 pub room_same : (name other : List ℕ) (xs : List Store) (place rows : ℕ) (s t : Store) → IsAt name xs place → s ≡ get_or xs place s → t.name ≡ s.name → same_text name other ≡ false →
-    has_room (map spare_at (set xs place t)) other rows ≡ has_room (map spare_at xs) other rows
+    has_spare_rows (map spare_at (set xs place t)) other rows ≡ has_spare_rows (map spare_at xs) other rows
 room_same name other [] place rows s t at is named differ = absurd at
 room_same name other (x ∷ xs) zero rows s t at is named differ =
     let x_is : x.name ≡ name = same_text_is x.name name at in
@@ -117,7 +117,7 @@ room_same name other (x ∷ xs) (suc place) rows s t at is named differ =
     ap (λ (b : Bool). if same_text x.name other then nat_le rows (vec_capacity x.rows - vec_len x.rows) else b) (room_same name other xs place rows s t at.1 is named differ)
 
 pub room_put : (name : List ℕ) (xs : List Store) (place rows : ℕ) (s t : Store) → IsAt name xs place → s ≡ get_or xs place s → t.name ≡ s.name →
-    has_room (map spare_at (set xs place t)) name rows ≡ nat_le rows (vec_capacity t.rows - vec_len t.rows)
+    has_spare_rows (map spare_at (set xs place t)) name rows ≡ nat_le rows (vec_capacity t.rows - vec_len t.rows)
 room_put name [] place rows s t at is named = absurd at
 room_put name (x ∷ xs) zero rows s t at is named =
     let same : same_text t.name name ≡ true = ap (λ (n : List ℕ). same_text n name) (named ∙ ap (λ (y : Store). y.name) is) ∙ at in
@@ -132,34 +132,34 @@ left_over n rows c l l' is e = grind arith
 
 -- room for so many rows of a part is room in the store of its table
 pub part_room : (table : List ℕ) (xs : List Store) (place : ℕ) (s : Store) (n : ℕ) → IsAt table xs place → s ≡ get_or xs place s → vec_len s.rows ≤ vec_capacity s.rows →
-    has_room (map spare_at xs) table (if same_text table table then n + 0 else 0) ≡ true → vec_len s.rows + n ≤ vec_capacity s.rows
+    has_spare_rows (map spare_at xs) table (if same_text table table then n + 0 else 0) ≡ true → vec_len s.rows + n ≤ vec_capacity s.rows
 part_room table xs place s n at is within room =
     let self = same_text_self table in
-    let there : has_room (map spare_at xs) table (n + 0) ≡ true = rw self at room in
+    let there : has_spare_rows (map spare_at xs) table (n + 0) ≡ true = rw self at room in
     enough n (vec_capacity s.rows) (vec_len s.rows) within (sym (room_at table xs place (n + 0) s at is) ∙ there)
 
 -- the room that is left behind a part
 pub part_rooms : (table : List ℕ) (xs : List Store) (place : ℕ) (s t : Store) (n : ℕ) → IsAt table xs place → s ≡ get_or xs place s → t.name ≡ s.name → vec_capacity t.rows ≡ vec_capacity s.rows →
-    vec_len t.rows ≡ vec_len s.rows + n → (name : List ℕ) (rows : ℕ) → has_room (map spare_at xs) name ((if same_text table name then n + 0 else 0) + rows) ≡ true → has_room (map spare_at (set xs place t)) name rows ≡ true
+    vec_len t.rows ≡ vec_len s.rows + n → (name : List ℕ) (rows : ℕ) → has_spare_rows (map spare_at xs) name ((if same_text table name then n + 0 else 0) + rows) ≡ true → has_spare_rows (map spare_at (set xs place t)) name rows ≡ true
 part_rooms table xs place s t n at is named capacity longer name rows =
-    elim (same_text table name) as (λ b. same_text table name ≡ b → has_room (map spare_at xs) name ((if b then n + 0 else 0) + rows) ≡ true → has_room (map spare_at (set xs place t)) name rows ≡ true) [
+    elim (same_text table name) as (λ b. same_text table name ≡ b → has_spare_rows (map spare_at xs) name ((if b then n + 0 else 0) + rows) ≡ true → has_spare_rows (map spare_at (set xs place t)) name rows ≡ true) [
       | true ↦ λ e room.
           let one : table ≡ name = same_text_is table name e in
-          let there : has_room (map spare_at xs) table ((n + 0) + rows) ≡ true = ap (λ (m : List ℕ). has_room (map spare_at xs) m ((n + 0) + rows)) one ∙ room in
+          let there : has_spare_rows (map spare_at xs) table ((n + 0) + rows) ≡ true = ap (λ (m : List ℕ). has_spare_rows (map spare_at xs) m ((n + 0) + rows)) one ∙ room in
           let was = sym (room_at table xs place ((n + 0) + rows) s at is) ∙ there in
           let left = left_over n rows (vec_capacity s.rows) (vec_len s.rows) (vec_len t.rows) longer was in
-          ap (λ (m : List ℕ). has_room (map spare_at (set xs place t)) m rows) (sym one) ∙ room_put table xs place rows s t at is named ∙ ap (λ (c : ℕ). nat_le rows (c - vec_len t.rows)) capacity ∙ left
+          ap (λ (m : List ℕ). has_spare_rows (map spare_at (set xs place t)) m rows) (sym one) ∙ room_put table xs place rows s t at is named ∙ ap (λ (c : ℕ). nat_le rows (c - vec_len t.rows)) capacity ∙ left
       | false ↦ λ e room. room_same table name xs place rows s t at is named e ∙ fewer (map spare_at xs) rows room
     ] refl
   where
-    fewer : (spares : List (List ℕ × ℕ)) (rows : ℕ) → has_room spares name (0 + rows) ≡ true → has_room spares name rows ≡ true
-    fewer spares rows room = ap (has_room spares name) (omega arith) ∙ room
+    fewer : (spares : List (List ℕ × ℕ)) (rows : ℕ) → has_spare_rows spares name (0 + rows) ≡ true → has_spare_rows spares name rows ≡ true
+    fewer spares rows room = ap (has_spare_rows spares name) (omega arith) ∙ room
 
 -- less room is needed
-pub room_weaker : (spares : List (List ℕ × ℕ)) (name : List ℕ) (more rows : ℕ) → has_room spares name (more + rows) ≡ true → has_room spares name rows ≡ true
+pub room_weaker : (spares : List (List ℕ × ℕ)) (name : List ℕ) (more rows : ℕ) → has_spare_rows spares name (more + rows) ≡ true → has_spare_rows spares name rows ≡ true
 room_weaker [] name more rows room = refl
 room_weaker (s ∷ ss) name more rows room =
-    elim (same_text s.0 name) as (λ b. (if b then nat_le (more + rows) s.1 else has_room ss name (more + rows)) ≡ true → (if b then nat_le rows s.1 else has_room ss name rows) ≡ true) [
+    elim (same_text s.0 name) as (λ b. (if b then nat_le (more + rows) s.1 else has_spare_rows ss name (more + rows)) ≡ true → (if b then nat_le rows s.1 else has_spare_rows ss name rows) ≡ true) [
       | true ↦ λ e. less more rows s.1 e
       | false ↦ λ e. room_weaker ss name more rows e
     ] room
@@ -186,15 +186,15 @@ unseen g xs i x y within is same = map-set_same g xs i y x (same ∙ ap g is)
 
 -- a store with more room at a place
 pub more_room : (xs : List Store) (i : ℕ) (x y : Store) → i < length xs → x ≡ get_or xs i x → y.name ≡ x.name → vec_capacity x.rows - vec_len x.rows ≤ vec_capacity y.rows - vec_len y.rows →
-    (name : List ℕ) (rows : ℕ) → has_room (map spare_at xs) name rows ≡ true → has_room (map spare_at (set xs i y)) name rows ≡ true
+    (name : List ℕ) (rows : ℕ) → has_spare_rows (map spare_at xs) name rows ≡ true → has_spare_rows (map spare_at (set xs i y)) name rows ≡ true
 more_room [] i x y within is named more name rows room = absurd (omega arith)
 more_room (z ∷ zs) zero x y within is named more name rows room =
     let name_is : y.name ≡ z.name = named ∙ ap (λ (s : Store). s.name) is in
     let more_is : vec_capacity z.rows - vec_len z.rows ≤ vec_capacity y.rows - vec_len y.rows = subst (λ (s : Store). vec_capacity s.rows - vec_len s.rows ≤ vec_capacity y.rows - vec_len y.rows) is more in
     let same : same_text y.name name ≡ same_text z.name name = ap (λ (n : List ℕ). same_text n name) name_is in
     rw same
-    (elim (same_text z.name name) as (λ b. (if b then nat_le rows (vec_capacity z.rows - vec_len z.rows) else has_room (map spare_at zs) name rows) ≡ true →
-    (if b then nat_le rows (vec_capacity y.rows - vec_len y.rows) else has_room (map spare_at zs) name rows) ≡ true) [
+    (elim (same_text z.name name) as (λ b. (if b then nat_le rows (vec_capacity z.rows - vec_len z.rows) else has_spare_rows (map spare_at zs) name rows) ≡ true →
+    (if b then nat_le rows (vec_capacity y.rows - vec_len y.rows) else has_spare_rows (map spare_at zs) name rows) ≡ true) [
       | true ↦ λ e. up rows (vec_capacity z.rows - vec_len z.rows) (vec_capacity y.rows - vec_len y.rows) e more_is
       | false ↦ λ e. e
     ] room)
@@ -202,8 +202,8 @@ more_room (z ∷ zs) zero x y within is named more name rows room =
     up : (r m n : ℕ) → nat_le r m ≡ true → m ≤ n → nat_le r n ≡ true
     up r m n e le = grind arith
 more_room (z ∷ zs) (suc i) x y within is named more name rows room =
-    elim (same_text z.name name) as (λ b. (if b then nat_le rows (vec_capacity z.rows - vec_len z.rows) else has_room (map spare_at zs) name rows) ≡ true →
-    (if b then nat_le rows (vec_capacity z.rows - vec_len z.rows) else has_room (map spare_at (set zs i y)) name rows) ≡ true) [
+    elim (same_text z.name name) as (λ b. (if b then nat_le rows (vec_capacity z.rows - vec_len z.rows) else has_spare_rows (map spare_at zs) name rows) ≡ true →
+    (if b then nat_le rows (vec_capacity z.rows - vec_len z.rows) else has_spare_rows (map spare_at (set zs i y)) name rows) ≡ true) [
       | true ↦ λ e. e
       | false ↦ λ e. more_room zs i x y (omega arith) is named more name rows e
     ] room

@@ -2,11 +2,11 @@
 use Rattle.std.proofs.Common.{◌≡◌, ℕ, ◌+◌, ◌<◌, Bool, true, false, ◌&&◌, List, [], ◌∷◌, ◌++◌, map, length, take, drop, get_or, set, refl, sym, ap, ◌∙◌, subst, arith, nat_lt, if◌then◌else◌}
 use Rattle.std.specs.List.{AllByRecursion, list_any}
 use Rattle.std.proofs.lemmas.List.{append-nil, map_push, append_assoc, drop-set-lt, drop_more, take_more_set}
-use Rattle.lake_model.specs.declared.entries.Added.{Added}
-use Rattle.lake_model.specs.declared.entries.Mark.{Mark}
-use Rattle.lake_model.specs.declared.entries.MarkedRow.{MarkedRow}
-use Rattle.lake_model.specs.Versions.{same_text}
-use Rattle.lake_model.proofs.Texts.{same_text_is, same_text_self, same_text_sym}
+use Rattle.sql_model.specs.declared.changes.Added.{Added}
+use Rattle.sql_model.specs.declared.changes.Mark.{Mark}
+use Rattle.sql_model.specs.declared.changes.MarkedRow.{MarkedRow}
+use Rattle.lake_values.specs.Texts.{same_text}
+use Rattle.lake_values.proofs.SameTexts.{same_text_is, same_text_self, same_text_sym}
 use Rattle.table_history.specs.declared.kept.Kept.{Kept}
 use Rattle.table_history.specs.declared.kept.ViewRow.{ViewRow}
 use Rattle.table_history.specs.Strikes.{less, same_marked, struck, times}

@@ -10,9 +10,9 @@ use Rattle.std.specs.declared.cmp.Ordering.TheVariants.{Less, Equal, Greater}
 use Rattle.std.specs.Prelude.{slice_get, slice_index_or}
 use Rattle.std.specs.List.Sorted.{IsPartitionedBy}
 use Rattle.std.specs.Option.{option_map_or}
-use Rattle.lake_model.specs.declared.entries.MarkedRow.{MarkedRow}
-use Rattle.lake_model.specs.Changes.{marked_cmp, without_one, without}
-use Rattle.lake_model.proofs.Removal.{marked_total, marked_tells}
+use Rattle.sql_model.specs.declared.changes.MarkedRow.{MarkedRow}
+use Rattle.sql_model.specs.Changes.{marked_cmp, without_one, without}
+use Rattle.sql_model.proofs.MarkOrder.{marked_total, marked_tells}
 use Rattle.table_history.specs.Strikes.{same_marked, times, less, struck, IsAscending, below, is_at, remaining}
 
 pub same_itself : (x : MarkedRow) → same_marked x x ≡ true

@@ -1,11 +1,12 @@
 -- The versions of tables that a history stands for.
 use Rattle.std.specs.Prelude.{◌≡◌, ◌≤◌, ℕ, ◌+◌, ◌-◌, Bool, true, List, [], ◌∷◌, ◌++◌, length, nat_le, slice_get, unwrap_or, if◌then◌else◌}
 use Rattle.std.specs.List.{AllByRecursion, list_any}
-use Rattle.lake_model.specs.declared.entries.Added.{Added}
-use Rattle.lake_model.specs.declared.entries.Change.{Change}
-use Rattle.lake_model.specs.declared.entries.Mark.{Mark}
-use Rattle.lake_model.specs.declared.entries.MarkedRow.{MarkedRow}
-use Rattle.lake_model.specs.Versions.{Tables, same_text}
+use Rattle.sql_model.specs.declared.changes.Added.{Added}
+use Rattle.sql_model.specs.declared.changes.Change.{Change}
+use Rattle.sql_model.specs.declared.changes.Mark.{Mark}
+use Rattle.sql_model.specs.declared.changes.MarkedRow.{MarkedRow}
+use Rattle.sql_model.specs.Versions.{Tables}
+use Rattle.lake_values.specs.Texts.{same_text}
 
 -- the number of the first version that is kept, the tables of it and of each version behind it, and for each table how
 -- many rows more it has room for
@@ -35,13 +36,13 @@ pub record IsIn (h : History) (version : ℕ) : Type 0 where
   pub to : version ≤ last_of h
 
 -- there is room for so many rows in the table, if there is one
-abbrev pub has_room : List (List ℕ × ℕ) → List ℕ → ℕ → Bool
-has_room [] name rows = true
-has_room (s ∷ ss) name rows = if same_text s.0 name then nat_le rows s.1 else has_room ss name rows
+abbrev pub has_spare_rows : List (List ℕ × ℕ) → List ℕ → ℕ → Bool
+has_spare_rows [] name rows = true
+has_spare_rows (s ∷ ss) name rows = if same_text s.0 name then nat_le rows s.1 else has_spare_rows ss name rows
 
 -- the room that the one history has for rows the other has too
 abbrev pub KeepsRoom : History → History → Type 0
-KeepsRoom old new = (name : List ℕ) (rows : ℕ) → has_room old.spares name rows ≡ true → has_room new.spares name rows ≡ true
+KeepsRoom old new = (name : List ℕ) (rows : ℕ) → has_spare_rows old.spares name rows ≡ true → has_spare_rows new.spares name rows ≡ true
 
 -- how many rows a change adds to a table
 abbrev pub rows_for : List ℕ → List Added → ℕ

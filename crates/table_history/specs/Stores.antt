@@ -5,12 +5,13 @@ use Rattle.std.specs.Option.{option_map_or}
 use Rattle.lake_values.specs.Cells.{cell}
 use Rattle.lake_values.specs.Schemas.{TableColumns}
 use Rattle.lake_values.specs.declared.values.Value.{Value}
-use Rattle.lake_model.specs.declared.entries.Mark.{Mark}
-use Rattle.lake_model.specs.declared.entries.MarkedRow.{MarkedRow}
-use Rattle.lake_model.specs.declared.entries.Added.{Added}
-use Rattle.lake_model.specs.Conflicts.{numbers}
-use Rattle.lake_model.specs.Evaluation.{value_at}
-use Rattle.lake_model.specs.Versions.{Table, Tables, same_text}
+use Rattle.sql_model.specs.declared.changes.Mark.{Mark}
+use Rattle.sql_model.specs.declared.changes.MarkedRow.{MarkedRow}
+use Rattle.sql_model.specs.declared.changes.Added.{Added}
+use Rattle.sql_model.specs.Listing.{numbers}
+use Rattle.lake_values.specs.Rows.{value_at}
+use Rattle.sql_model.specs.Versions.{Table, Tables}
+use Rattle.lake_values.specs.Texts.{same_text}
 use Rattle.table_history.specs.declared.kept.Kept.{Kept}
 use Rattle.table_history.specs.declared.kept.ViewRow.{ViewRow}
 use Rattle.table_history.specs.declared.stores.Store.{Store}

@@ -1,16 +1,17 @@
 ghost use Rattle.std.specs.Prelude.{◌≡◌, ◌<◌, ◌+◌, ◌^◌, List, ℕ, [], ◌∷◌, ◌++◌, length, map, filter, vec_len, true, false, IfOk, OnOk, OnErr};
 ghost use Rattle.std.specs.Option.{option_copied, option_map};
-ghost use Rattle.lake_model.specs.Changes.{applied, marked_cmp, without};
-ghost use Rattle.lake_model.specs.Versions.{has_table, marked_rows_of, same_text, table_of};
-ghost use Rattle.lake_model.specs.Writing as writing;
-ghost use Rattle.table_history.specs.Histories.{GrowsBy, IsIn, KeepsRoom, NamesTables, change_from, has_room, last_of, newest_of, no_tables, rows_for, tables_in};
+ghost use Rattle.sql_model.specs.Changes.{applied, marked_cmp, without};
+ghost use Rattle.sql_model.specs.Versions.{has_table, marked_rows_of, table_of};
+ghost use Rattle.lake_values.specs.Texts.{same_text};
+ghost use Rattle.sql_model.specs.Writing as writing;
+ghost use Rattle.table_history.specs.Histories.{GrowsBy, IsIn, KeepsRoom, NamesTables, change_from, has_spare_rows, last_of, newest_of, no_tables, rows_for, tables_in};
 ghost use Rattle.table_history.specs.Stores.{marked_of, stored, tables_at};
 ghost use Rattle.table_history.specs.Strikes.{IsAscending};
 
 use crate::kept::ViewRow;
 use crate::stores::{Store, add_parts, clear_stores, place_of, reserve_rows, stamp_stores};
-use lake_model::{Added, MarkedRow, Marks, Schemas};
 use lake_values::{Listed, NoMemory, Schema, Text};
+use sql_model::{Added, MarkedRow, Marks, Schemas};
 use std::alloc::Global;
 use std::marker::Model;
 
@@ -133,8 +134,8 @@ impl History {
         requires absent { has_table name (newest_of self.old) ≡ false }
         requires small { last_of self.old + 1 < 2 ^ 62 }
         ensures made { OnOk result (GrowsBy self.old self.new (newest_of self.old ++ record { name = name; schema = schema; rows = [] } ∷ [])) }
-        ensures room { OnOk result (has_room self.new.spares name rows ≡ true) }
-        ensures others { OnOk result ((other : List ℕ) (more : ℕ) → same_text name other ≡ false → has_room self.old.spares other more ≡ true → has_room self.new.spares other more ≡ true) }
+        ensures room { OnOk result (has_spare_rows self.new.spares name rows ≡ true) }
+        ensures others { OnOk result ((other : List ℕ) (more : ℕ) → same_text name other ≡ false → has_spare_rows self.old.spares other more ≡ true → has_spare_rows self.new.spares other more ≡ true) }
         ensures err { OnErr result (self.new ≡ self.old) }
     {
         let created = self.last + 1;
@@ -154,7 +155,7 @@ impl History {
         ensures first { self.new.first ≡ self.old.first }
         ensures tables { self.new.tables ≡ self.old.tables }
         ensures keeps { KeepsRoom self.old self.new }
-        ensures room { OnOk result (has_room self.new.spares table.now rows ≡ true) }
+        ensures room { OnOk result (has_spare_rows self.new.spares table.now rows ≡ true) }
     {
         reserve_rows(&mut self.stores, table, rows)
     }
@@ -173,10 +174,10 @@ impl History {
         requires ascending { IsAscending removed.now }
         requires names { NamesTables marks.now removed.now }
         requires used { vec_len used.old ≡ length removed.now }
-        requires room { (name : List ℕ) → has_room self.old.spares name (rows_for name added.items) ≡ true }
+        requires room { (name : List ℕ) → has_spare_rows self.old.spares name (rows_for name added.items) ≡ true }
         requires small { last_of self.old + 1 < 2 ^ 62 }
         ensures made { GrowsBy self.old self.new (applied (last_of self.old + 1) (change_from removed.now added.items) (newest_of self.old)) }
-        ensures room { (name : List ℕ) (rows : ℕ) → has_room self.old.spares name (rows_for name added.items + rows) ≡ true → has_room self.new.spares name rows ≡ true }
+        ensures room { (name : List ℕ) (rows : ℕ) → has_spare_rows self.old.spares name (rows_for name added.items + rows) ≡ true → has_spare_rows self.new.spares name rows ≡ true }
     {
         let seq = self.last + 1;
         stamp_stores(&mut self.stores, self.last, seq, marks, removed, used);

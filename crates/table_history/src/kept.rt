@@ -1,9 +1,9 @@
 ghost use Rattle.std.specs.Prelude.{◌≡◌, List, ℕ, IfOk, is_none};
 ghost use Rattle.table_history.specs.Stores as spec;
 
-use lake_model::{Mark, MarkedRow};
 use lake_values::{NoMemory, Row, Text};
-use row_evaluation::{Cells, Standing};
+use row_evaluation::{Cells, Lookup};
+use sql_model::{Mark, MarkedRow};
 use std::alloc::Global;
 
 /// A row of a table, with what its mark says beside the table, and the commit that removed it.
@@ -33,7 +33,7 @@ pub struct ViewRow<'a> {
 impl Cells for ViewRow<'_> {
     ghost cells = { λ r. r.row.now };
 
-    fn find(&self, place: usize) -> Standing<'_> {
+    fn find(&self, place: usize) -> Lookup<'_> {
         self.row.find(place)
     }
 }

@@ -1,16 +1,16 @@
 ghost use Rattle.std.specs.Prelude.{◌≡◌, ◌<◌, ◌≤◌, ◌+◌, List, ℕ, ◌∷◌, ◌++◌, [], length, map, filter, vec_len, vec_capacity, position, is_none, IfOk, OnOk, true, replicate};
 ghost use Rattle.std.specs.List.{AllByRecursion, list_any};
-ghost use Rattle.lake_model.specs.Evaluation.{value_at};
-ghost use Rattle.lake_model.specs.Versions.{same_text};
+ghost use Rattle.lake_values.specs.Rows.{value_at};
+ghost use Rattle.lake_values.specs.Texts.{same_text};
 ghost use Rattle.lake_values.specs.Cells.{cell};
 ghost use Rattle.table_history.specs.Stores.{HaveOwnNames, cleared_if, grown_store, kept_by, marked_of, rows_at, grown_stores, spare_at, stamped, stamped_store, stored};
-ghost use Rattle.table_history.specs.Histories.{NamesTables, has_room, rows_for};
+ghost use Rattle.table_history.specs.Histories.{NamesTables, has_spare_rows, rows_for};
 ghost use Rattle.table_history.specs.Strikes.{IsAscending, remaining, struck, times};
 
 use crate::kept::{Kept, ViewRow};
 use crate::strikes::{strikes, unused};
-use lake_model::{Added, MarkedRow, Marks};
 use lake_values::{NoMemory, Row, Schema, Text, Value, cell_of};
+use sql_model::{Added, MarkedRow, Marks};
 use std::alloc::Global;
 
 /// A table with the rows of all its versions.
@@ -225,9 +225,9 @@ fn put_rows(rows: &mut Vec<Kept>, schema: &Schema, seq: u64, part: u32, more: Ve
 /// them.
 fn add_part(stores: &mut Vec<Store>, seq: u64, added: Added)
     requires own_names { HaveOwnNames (map stored stores.old.items) }
-    requires room { (name : List ℕ) → has_room (map spare_at stores.old.items) name (rows_for name (added ∷ [])) ≡ true }
+    requires room { (name : List ℕ) → has_spare_rows (map spare_at stores.old.items) name (rows_for name (added ∷ [])) ≡ true }
     ensures stores { map stored stores.new.items ≡ map (grown_store seq added) (map stored stores.old.items) }
-    ensures room { (name : List ℕ) (rows : ℕ) → has_room (map spare_at stores.old.items) name (rows_for name (added ∷ []) + rows) ≡ true → has_room (map spare_at stores.new.items) name rows ≡ true }
+    ensures room { (name : List ℕ) (rows : ℕ) → has_spare_rows (map spare_at stores.old.items) name (rows_for name (added ∷ []) + rows) ≡ true → has_spare_rows (map spare_at stores.new.items) name rows ≡ true }
 {
     let Some(place) = place_of(stores.as_slice(), &added.table) else {
         return;
@@ -240,9 +240,9 @@ fn add_part(stores: &mut Vec<Store>, seq: u64, added: Added)
 /// Puts the rows of all parts of a commit into the stores of their tables, in room that was made for them.
 pub fn add_parts(stores: &mut Vec<Store>, seq: u64, added: Vec<Added>)
     requires own_names { HaveOwnNames (map stored stores.old.items) }
-    requires room { (name : List ℕ) → has_room (map spare_at stores.old.items) name (rows_for name added.items) ≡ true }
+    requires room { (name : List ℕ) → has_spare_rows (map spare_at stores.old.items) name (rows_for name added.items) ≡ true }
     ensures stores { map stored stores.new.items ≡ grown_stores seq added.items (map stored stores.old.items) }
-    ensures room { (name : List ℕ) (rows : ℕ) → has_room (map spare_at stores.old.items) name (rows_for name added.items + rows) ≡ true → has_room (map spare_at stores.new.items) name rows ≡ true }
+    ensures room { (name : List ℕ) (rows : ℕ) → has_spare_rows (map spare_at stores.old.items) name (rows_for name added.items + rows) ≡ true → has_spare_rows (map spare_at stores.new.items) name rows ≡ true }
 {
     for part in added {
         add_part(stores, seq, part);
@@ -261,7 +261,7 @@ fn clear_rows(rows: &mut Vec<Kept>)
 /// Takes away the rows that a commit removed from the tables that the marks name.
 pub fn clear_stores(stores: &mut Vec<Store>, marks: &Marks)
     ensures stores { map stored stores.new.items ≡ map (cleared_if marks.now) (map stored stores.old.items) }
-    ensures room { (name : List ℕ) (rows : ℕ) → has_room (map spare_at stores.old.items) name rows ≡ true → has_room (map spare_at stores.new.items) name rows ≡ true }
+    ensures room { (name : List ℕ) (rows : ℕ) → has_spare_rows (map spare_at stores.old.items) name rows ≡ true → has_spare_rows (map spare_at stores.new.items) name rows ≡ true }
 {
     for i in 0..stores.len() {
         clear_named(&mut stores[i], marks);
@@ -283,8 +283,8 @@ fn clear_named(store: &mut Store, marks: &Marks)
 /// Makes room for more rows in the store of a table, if there is one.
 pub fn reserve_rows(stores: &mut Vec<Store>, table: &Text, rows: usize) -> Result<(), NoMemory>
     ensures stores { map stored stores.new.items ≡ map stored stores.old.items }
-    ensures keeps { (name : List ℕ) (more : ℕ) → has_room (map spare_at stores.old.items) name more ≡ true → has_room (map spare_at stores.new.items) name more ≡ true }
-    ensures room { OnOk result (has_room (map spare_at stores.new.items) table.now rows ≡ true) }
+    ensures keeps { (name : List ℕ) (more : ℕ) → has_spare_rows (map spare_at stores.old.items) name more ≡ true → has_spare_rows (map spare_at stores.new.items) name more ≡ true }
+    ensures room { OnOk result (has_spare_rows (map spare_at stores.new.items) table.now rows ≡ true) }
 {
     let Some(place) = place_of(stores.as_slice(), table) else {
         return Ok(());

@@ -3,13 +3,13 @@
 ghost use Rattle.std.specs.Prelude.{◌≡◌, ◌≤◌, length, vec_len, nat_lt, replicate, if◌then◌else◌, IfOk, ◌<◌, ◌+◌};
 ghost use Rattle.std.specs.List.{AllByRecursion};
 ghost use Rattle.std.specs.Ordering.{is_lt};
-ghost use Rattle.lake_model.specs.Changes.{mark_cmp, marked_cmp};
+ghost use Rattle.sql_model.specs.Changes.{mark_cmp, marked_cmp};
 ghost use Rattle.table_history.specs.Stores.{marked_of};
 ghost use Rattle.table_history.specs.Strikes.{IsAscending, below, is_at, less, remaining};
 
 use crate::kept::ViewRow;
-use lake_model::{Mark, MarkedRow};
 use lake_values::{NoMemory, Text, compare_rows};
+use sql_model::{Mark, MarkedRow};
 use std::alloc::Global;
 use std::cmp::Ordering;
 

@@ -4,11 +4,12 @@ use Rattle.std.specs.Prelude.{find, slice_index_or, IfSome, IfNone}
 use Rattle.std.specs.List.{AllByRecursion, list_any}
 use Rattle.std.specs.List.Sorted.{IsPartitionPoint}
 use Rattle.std.specs.Option.{option_map}
-use Rattle.lake_model.specs.declared.entries.Mark.{Mark}
-use Rattle.lake_model.specs.Versions.{whole_table, same_text, same_unit, share_unit}
+use Rattle.sql_model.specs.declared.changes.Mark.{Mark}
+use Rattle.sql_model.specs.Units.{whole_table, same_unit, share_unit, units_of_marks}
+use Rattle.lake_values.specs.Texts.{same_text}
 use Rattle.write_set_catalog.specs.declared.rows.CatRow.{CatRow}
 use Rattle.write_set_catalog.specs.Catalogs.{IsBehind}
-use Rattle.write_set_catalog.specs.Rows.{AreInOrder, HasNoConflict, IsFirstConflict, is_conflict, units_of_marks, writes_one}
+use Rattle.write_set_catalog.specs.Rows.{AreInOrder, HasNoConflict, IsFirstConflict, is_conflict, writes_one}
 
 -- a row behind the others
 

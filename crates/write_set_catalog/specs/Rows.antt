@@ -1,13 +1,9 @@
 -- What the rows of a catalogue say of conflicts.
 use Rattle.std.specs.Prelude.{◌≡◌, ℕ, ◌≤◌, ◌==◌, Bool, true, false, ◌&&◌, List, [], ◌∷◌, map, nat_lt}
 use Rattle.std.specs.List.{AllByRecursion, list_any}
-use Rattle.lake_model.specs.declared.entries.Mark.{Mark}
-use Rattle.lake_model.specs.Versions.{ConflictUnit, whole_table, share_unit}
+use Rattle.sql_model.specs.declared.changes.Mark.{Mark}
+use Rattle.sql_model.specs.Units.{ConflictUnit, whole_table, share_unit, units_of_marks}
 use Rattle.write_set_catalog.specs.declared.rows.CatRow.{CatRow}
-
--- the conflict units of rows that have these marks
-abbrev pub units_of_marks : List Mark → List ConflictUnit
-units_of_marks marks = map (λ m. whole_table m.table) marks
 
 -- what the row's commit wrote of its table: the table, where it removed a row of it
 abbrev pub units_of_row : CatRow → List ConflictUnit

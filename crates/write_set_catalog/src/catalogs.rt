@@ -4,8 +4,8 @@ ghost use Rattle.write_set_catalog.specs.Rows.{HasNoConflict, IsFirstConflict};
 
 use crate::CatRow;
 use crate::conflicts::{first_writer, later_rows};
-use lake_model::Marks;
 use lake_values::NoMemory;
+use sql_model::Marks;
 use std::alloc::Global;
 use std::marker::Model;
 

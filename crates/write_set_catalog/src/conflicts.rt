@@ -3,12 +3,13 @@
 ghost use Rattle.std.specs.Prelude.{◌≡◌, filter, find, nat_lt};
 ghost use Rattle.std.specs.List.{list_any};
 ghost use Rattle.std.specs.Option.{option_map};
-ghost use Rattle.lake_model.specs.Versions.{same_text, share_unit};
-ghost use Rattle.write_set_catalog.specs.Rows.{AreInOrder, units_of_marks, units_of_row, writes_one};
+ghost use Rattle.lake_values.specs.Texts.{same_text};
+ghost use Rattle.sql_model.specs.Units.{share_unit, units_of_marks};
+ghost use Rattle.write_set_catalog.specs.Rows.{AreInOrder, units_of_row, writes_one};
 
 use crate::CatRow;
-use lake_model::Marks;
 use lake_values::Text;
+use sql_model::Marks;
 
 /// The rows of the commits after a snapshot.
 pub fn later_rows(rows: &[CatRow], snapshot: u64) -> &[CatRow]

@@ -1,5 +1,5 @@
-use lake_model::Marks;
 use lake_values::Text;
+use sql_model::Marks;
 
 /// What a commit wrote of a table: the marks of the committed rows that it removed there. A commit that only added rows
 /// to the table has no marks.

@@ -1,7 +1,6 @@
 use Rattle.std.proofs.Common.{◌≡◌, ◌≤◌, length, map, drop, replicate, None}
-use Rattle.lake_values.specs.Reading.{each_at}
+use Rattle.lake_values.specs.Reading.{each_at, repeated_at}
 use Rattle.lake_values.proofs.Loops.{with_front}
-use Rattle.lake_values.specs.Reading.{repeated_at}
 use Rattle.column_file.specs.Lent.{lent_column}
 use Rattle.column_file.specs.Reading.{column_at}
 use Rattle.column_file.proofs.columns.read_columns.Given as goal

@@ -1,5 +1,5 @@
 use Rattle.std.proofs.Common.{◌∙◌, sym}
-use Rattle.lake_core.proofs.HomeLemmas.{empty_is, history_forgotten}
+use Rattle.lake_core.proofs.ConsistencyLemmas.{empty_is, history_forgotten}
 use Rattle.lake_core.proofs.commits.forget_unseen.Goals as goal
 
 pub returns-then-is_empty-clause-versions : goal.returns-then-is_empty-clause-versions

@@ -1,5 +1,5 @@
 use Rattle.std.proofs.Common.{◌∙◌, arith, sym}
-use Rattle.lake_model.specs.Versions.{same_text}
+use Rattle.lake_values.specs.Texts.{same_text}
 use Rattle.lake_core.proofs.ReserveLemmas.{repeated}
 use Rattle.lake_core.proofs.reservations.repeats.Goals as goal
 

@@ -2,8 +2,8 @@ use Rattle.std.proofs.Common.{◌≡◌, ◌∙◌, ◌-◌, Some, List, map, ap
 use Rattle.std.specs.Prelude.{slice_get}
 use Rattle.std.specs.Option.{option_copied}
 use Rattle.std.proofs.lemmas.Result.{on_ok_weaker}
-use Rattle.lake_model.specs.declared.entries.Mark.{Mark}
-use Rattle.lake_model.specs.Versions.{share_unit, whole_table}
+use Rattle.sql_model.specs.declared.changes.Mark.{Mark}
+use Rattle.sql_model.specs.Units.{share_unit, whole_table}
 use Rattle.write_set_catalog.specs.declared.rows.CatRow.{CatRow}
 use Rattle.lake_core.proofs.RoomLemmas.{is_written, more_write, there_write}
 use Rattle.lake_core.proofs.rooms.add_mark.Goals as goal

@@ -1,6 +1,6 @@
 use Rattle.std.proofs.Common.{◌≡◌, ◌∙◌, ◌-◌, ◌<◌, List, ℕ, ap, refl, sym, arith, length, vec_len}
 use Rattle.std.proofs.lemmas.Result.{on_ok_weaker}
-use Rattle.lake_model.proofs.Texts.{same_text_is}
+use Rattle.lake_values.proofs.SameTexts.{same_text_is}
 use Rattle.lake_core.proofs.RoomLemmas.{is_written, rows_put}
 use Rattle.lake_core.proofs.rooms.put_mark.Goals as goal
 

@@ -1,5 +1,5 @@
 use Rattle.std.proofs.Common.{◌≡◌, ◌||◌, List, drop}
-use Rattle.lake_model.specs.Versions.{ConflictUnit, share_unit}
+use Rattle.sql_model.specs.Units.{ConflictUnit, share_unit}
 use Rattle.lake_core.specs.Rooms.{rows_share, units_of_rows}
 use Rattle.lake_core.proofs.rooms.put_marks.Given as goal
 

@@ -1,8 +1,8 @@
 use Rattle.std.proofs.Common.{◌≡◌, ◌∙◌, ◌-◌, Some, List, ap, sym, length}
 use Rattle.std.specs.Prelude.{slice_get}
 use Rattle.std.specs.Option.{option_copied}
-use Rattle.lake_model.specs.declared.entries.Mark.{Mark}
-use Rattle.lake_model.proofs.Texts.{same_text_is}
+use Rattle.sql_model.specs.declared.changes.Mark.{Mark}
+use Rattle.lake_values.proofs.SameTexts.{same_text_is}
 use Rattle.lake_core.proofs.RoomLemmas.{marks_know}
 use Rattle.lake_core.proofs.rooms.put_table.Goals as goal
 

@@ -1,6 +1,5 @@
 use Rattle.std.proofs.Common.{◌≡◌, ◌||◌, List, drop}
-use Rattle.lake_model.specs.Versions.{ConflictUnit, share_unit}
-use Rattle.write_set_catalog.specs.Rows.{units_of_marks}
+use Rattle.sql_model.specs.Units.{ConflictUnit, share_unit, units_of_marks}
 use Rattle.lake_core.specs.Rooms.{units_of_rows}
 use Rattle.lake_core.proofs.rooms.put_tables.Given as goal
 

@@ -1,5 +1,5 @@
 use Rattle.std.proofs.Common.{◌≡◌, ◌++◌, map, drop, flat_map}
-use Rattle.lake_model.specs.Changes.{added_to}
+use Rattle.sql_model.specs.Changes.{added_to}
 use Rattle.table_history.specs.Stores.{marked_of}
 use Rattle.lake_core.specs.Rooms.{empty_table}
 use Rattle.lake_core.proofs.views.put_added.Given as goal

@@ -1,5 +1,5 @@
 use Rattle.std.proofs.Common.{◌≡◌, ◌++◌, map, drop}
-use Rattle.lake_model.specs.Changes.{marked}
+use Rattle.sql_model.specs.Changes.{marked}
 use Rattle.table_history.specs.Stores.{marked_of}
 use Rattle.lake_core.proofs.views.put_part.Given as goal
 

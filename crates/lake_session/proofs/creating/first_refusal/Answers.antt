@@ -1,7 +1,7 @@
 use Rattle.std.proofs.Common.{Some, true, refl, sym, ◌∙◌}
 use Rattle.lake_core.specs.Lakes.{state_of}
 use Rattle.lake_model.specs.State.{transaction}
-use Rattle.lake_model.specs.declared.statements.Statement.TheVariants.{Create}
+use Rattle.sql_model.specs.declared.statements.Statement.TheVariants.{Create}
 use Rattle.lake_session.proofs.Answering.{refused_bound}
 use Rattle.lake_session.proofs.Columns.{refused_by}
 use Rattle.lake_session.proofs.Parts.{found_none}

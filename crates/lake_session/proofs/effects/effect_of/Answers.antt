@@ -1,10 +1,10 @@
 use Rattle.std.proofs.Common.{◌≡◌, Ok, Err, sym, ap, ◌∙◌}
 use Rattle.std.specs.Prelude.{Result}
 use Rattle.std.proofs.lemmas.Result.{IfOk-weaker}
-use Rattle.lake_model.specs.declared.bound.Bound.{Bound}
-use Rattle.lake_model.specs.declared.bound.Bound.TheVariants.{Update}
-use Rattle.lake_model.specs.declared.replies.Refusal.{Refusal}
-use Rattle.lake_model.specs.Writing as writing
+use Rattle.sql_model.specs.declared.bound.Bound.{Bound}
+use Rattle.sql_model.specs.declared.bound.Bound.TheVariants.{Update}
+use Rattle.sql_model.specs.declared.replies.Refusal.{Refusal}
+use Rattle.sql_model.specs.Writing as writing
 use Rattle.lake_session.specs.declared.effects.EffectFault.{EffectFault}
 use Rattle.lake_session.specs.declared.effects.EffectFault.TheVariants.{Refused, NoMemory}
 use Rattle.lake_session.specs.Effects.{IfRefused}

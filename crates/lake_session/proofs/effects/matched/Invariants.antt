@@ -1,5 +1,5 @@
 use Rattle.std.proofs.Common.{◌≡◌, ◌++◌, map, drop}
-use Rattle.lake_model.specs.Writing as writing
+use Rattle.sql_model.specs.Writing as writing
 use Rattle.table_history.specs.Stores.{marked_of}
 use Rattle.lake_session.proofs.effects.matched.Given as goal
 

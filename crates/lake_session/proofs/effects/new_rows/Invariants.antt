@@ -1,5 +1,5 @@
 use Rattle.std.proofs.Common.{◌≡◌, ◌++◌, drop}
-use Rattle.lake_model.specs.Writing as writing
+use Rattle.sql_model.specs.Writing as writing
 use Rattle.lake_session.proofs.effects.new_rows.Given as goal
 
 abbrev pub invariant-loop-marked : goal.invariant-loop-marked

@@ -1,10 +1,10 @@
 use Rattle.std.proofs.Common.{◌≡◌, List, Ok, map, sym, ap, ◌∙◌}
 use Rattle.lake_values.specs.declared.values.Value.{Value}
 use Rattle.table_history.specs.declared.kept.ViewRow.{ViewRow}
-use Rattle.lake_model.specs.declared.entries.Change.{Change}
-use Rattle.lake_model.specs.declared.replies.Reply.TheVariants.{Rows}
-use Rattle.lake_model.specs.Versions.{rows_of}
-use Rattle.lake_model.specs.Writing as writing
+use Rattle.sql_model.specs.declared.changes.Change.{Change}
+use Rattle.sql_model.specs.declared.replies.Reply.TheVariants.{Rows}
+use Rattle.sql_model.specs.Versions.{rows_of}
+use Rattle.sql_model.specs.Writing as writing
 use Rattle.plain_query.specs.Databases.{rows_lent}
 use Rattle.lake_session.proofs.effects.queried.Goals as goal
 

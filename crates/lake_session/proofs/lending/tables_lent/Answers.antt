@@ -2,7 +2,7 @@ use Rattle.std.proofs.Common.{◌≡◌, ℕ, List, [], ◌∷◌, ◌++◌, ◌
 use Rattle.std.specs.Global.{Vec}
 use Rattle.std.proofs.lemmas.List.{at_drop_more, map_push}
 use Rattle.lake_values.specs.declared.values.Value.{Value}
-use Rattle.lake_model.specs.Versions.{rows_of}
+use Rattle.sql_model.specs.Versions.{rows_of}
 use Rattle.table_history.specs.declared.kept.ViewRow.{ViewRow}
 use Rattle.table_history.specs.Stores.{marked_of}
 use Rattle.lake_session.specs.Lending.{rows_seen}

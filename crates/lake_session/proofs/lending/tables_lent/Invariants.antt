@@ -1,5 +1,5 @@
 use Rattle.std.proofs.Common.{◌≡◌, ◌++◌, map, drop}
-use Rattle.lake_model.specs.Versions.{rows_of}
+use Rattle.sql_model.specs.Versions.{rows_of}
 use Rattle.lake_session.specs.Lending.{tables_seen}
 use Rattle.lake_session.proofs.lending.tables_lent.Given as goal
 

@@ -1,7 +1,7 @@
 use Rattle.std.proofs.Common.{true}
 use Rattle.lake_core.specs.Facts.{beginning}
 use Rattle.lake_core.specs.Lakes.{state_of}
-use Rattle.lake_model.specs.declared.statements.Statement.TheVariants as statement
+use Rattle.sql_model.specs.declared.statements.Statement.TheVariants as statement
 use Rattle.lake_session.proofs.Answering.{begin_answers}
 use Rattle.lake_session.proofs.Chains.{leaves_by, ran_by}
 use Rattle.lake_session.proofs.running.begin.Goals as goal

@@ -4,8 +4,8 @@ use Rattle.lake_core.specs.Facts.{commitment}
 use Rattle.lake_core.specs.Lakes.{state_of}
 use Rattle.lake_model.specs.State.{transaction}
 use Rattle.lake_model.specs.declared.entries.Fact.TheVariants as fact
-use Rattle.lake_model.specs.declared.replies.Refusal.TheVariants.{NoTransaction}
-use Rattle.lake_model.specs.declared.statements.Statement.TheVariants as statement
+use Rattle.sql_model.specs.declared.replies.Refusal.TheVariants.{NoTransaction}
+use Rattle.sql_model.specs.declared.statements.Statement.TheVariants as statement
 use Rattle.lake_session.proofs.Answering.{commit_answers, commit_outside}
 use Rattle.lake_session.proofs.Chains.{leaves_by, leaves_ended, ran_by, ran_ended}
 use Rattle.lake_session.proofs.Parts.{found_none, found_some}

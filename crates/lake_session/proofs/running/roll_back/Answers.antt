@@ -2,10 +2,10 @@ use Rattle.std.proofs.Common.{sym, subst}
 use Rattle.lake_core.specs.Lakes.{state_of}
 use Rattle.lake_model.specs.State.{transaction}
 use Rattle.lake_model.specs.declared.entries.Fact.TheVariants as fact
-use Rattle.lake_model.specs.declared.replies.Refusal.TheVariants.{NoTransaction}
-use Rattle.lake_model.specs.declared.replies.Reply.{Reply}
-use Rattle.lake_model.specs.declared.statements.Statement.TheVariants as statement
-use Rattle.lake_session.specs.Runs.{Ran}
+use Rattle.sql_model.specs.declared.replies.Refusal.TheVariants.{NoTransaction}
+use Rattle.sql_model.specs.declared.replies.Reply.{Reply}
+use Rattle.sql_model.specs.declared.statements.Statement.TheVariants as statement
+use Rattle.lake_session.specs.Runs.{Ran, numbered}
 use Rattle.lake_session.proofs.Answering.{roll_back_answers, roll_back_outside}
 use Rattle.lake_session.proofs.Chains.{leaves_by, leaves_records, leaves_same, ran_by, ran_from, records_rolled}
 use Rattle.lake_session.proofs.Parts.{found_none}
@@ -28,7 +28,7 @@ pub returns-clause-ran : goal.returns-clause-ran
 returns-clause-ran g c =
     let lake = c.args.lake.now in
     let records = records_rolled lake c.reserve.new.self c.roll_back.new.self c.args.who c.in_ok-reserve.ensures.entries c.in_ok-reserve.ensures.others c.roll_back.ensures.entry in
-    let P : Reply → Type 0 = λ said. Ran lake c.roll_back.new.self c.args.who statement.RollBack said in
+    let P : Reply → Type 0 = λ said. Ran lake c.roll_back.new.self (numbered c.args.who statement.RollBack) said in
     subst P (sym c.roll_back.ensures.reply)
     (ran_from lake c.roll_back.new.self c.args.who statement.RollBack fact.RolledBack _ _ records.entries records.legal records.unreserved (roll_back_answers (state_of lake) c.args.who))
 

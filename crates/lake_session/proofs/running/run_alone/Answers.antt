@@ -5,7 +5,7 @@ use Rattle.lake_model.specs.Refusals.{result_of}
 use Rattle.lake_model.specs.State.{transaction}
 use Rattle.lake_session.specs.Runs.{IsOutcome, outcome}
 use Rattle.lake_session.specs.declared.steps.Answered.{Answered}
-use Rattle.lake_session.proofs.Chains.{begun_part, begun_running, leaves_records, leaves_same, leaves_then, ran_alone, ran_running, records_of, refused_alone}
+use Rattle.lake_session.proofs.Chains.{at_error, begun_first, begun_part, begun_running, begun_same, begun_second, leaves_records, leaves_same, leaves_then, ran_alone, ran_running, records_of, refused_alone}
 use Rattle.lake_session.proofs.States.{none_there}
 use Rattle.lake_session.proofs.running.run_alone.Goals as goal
 
@@ -86,3 +86,26 @@ returns-in_ok-end-in-Ran-clause-leaves g c =
     (leaves_then c.begin.new.self c.run_inside.new.lake c.end.new.lake c.args.who.session
     (leaves_records c.begin.new.self c.run_inside.new.lake c.args.who (outcome (result_of (state_of c.begin.new.self) c.args.who.session c.args.statement.now)) c.in_ok-reply.ensures.entry)
     (leaves_records c.run_inside.new.lake c.end.new.lake c.args.who (commitment (state_of c.run_inside.new.lake) c.args.who.session) c.in_ok-end-in-Ran.ensures.entry))
+
+pub returns-in_err-begin-clause-begun : goal.returns-in_err-begin-clause-begun
+returns-in_err-begin-clause-begun g c =
+    at_error c.from_residual.result (begun_same c.args.lake.now c.begin.new.self c.args.who c.args.statement.now c.in_err-begin.ensures.err)
+
+pub returns-in_err-reply-clause-begun : goal.returns-in_err-reply-clause-begun
+returns-in_err-reply-clause-begun g c =
+    let old = c.args.lake.now in
+    let begun = beginning (state_of old) c.args.who.session false in
+    let first = records_of old c.begin.new.self c.args.who begun c.requires.session.unreserved c.in_ok-begin.ensures.entry in
+    at_error c.from_residual-in_err-reply.result
+    (begun_first old c.begin.new.self c.args.who c.args.statement.now c.requires.rows (none_there (transaction (state_of old) c.args.who.session) c.requires.outside) first
+    c.run_inside.new.lake c.in_err-reply.ensures.err)
+
+pub returns-in_err-end-in-Ran-clause-begun : goal.returns-in_err-end-in-Ran-clause-begun
+returns-in_err-end-in-Ran-clause-begun g c =
+    let old = c.args.lake.now in
+    let begun = beginning (state_of old) c.args.who.session false in
+    let first = records_of old c.begin.new.self c.args.who begun c.requires.session.unreserved c.in_ok-begin.ensures.entry in
+    let P : Answered → Type 0 = λ a. IsOutcome a (result_of (state_of c.begin.new.self) c.args.who.session c.args.statement.now) in
+    at_error c.from_residual-in_err-end-in-Ran.result
+    (begun_second old c.begin.new.self c.args.who c.args.statement.now c.requires.rows (none_there (transaction (state_of old) c.args.who.session) c.requires.outside) first
+    c.run_inside.new.lake c.in-Ran.reply c.in_ok-reply.ensures.entry c.end.new.lake (subst P c.in-Ran.is c.in_ok-reply.ensures.reply) c.in_err-end-in-Ran.ensures.err)

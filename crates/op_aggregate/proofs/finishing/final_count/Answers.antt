@@ -2,8 +2,8 @@ use Rattle.std.proofs.Common.{◌≡◌, true, false, map, drop, sym, ap, ◌∙
 use Rattle.std.proofs.lemmas.Result.{IfOk-weaker}
 use Rattle.lake_values.specs.Order.{number_of}
 use Rattle.lake_values.specs.declared.values.Value.TheVariants.{Int}
-use Rattle.lake_model.specs.Evaluation.{is_64_bits}
-use Rattle.lake_model.specs.Groups.{sum_of_both}
+use Rattle.sql_model.specs.Evaluation.{is_64_bits}
+use Rattle.sql_model.specs.Groups.{sum_of_both}
 use Rattle.op_aggregate.specs.Partials.{column}
 use Rattle.op_aggregate.proofs.Finals.{column_fits, summary_behind, total_is}
 use Rattle.op_aggregate.proofs.finishing.final_count.Goals as goal

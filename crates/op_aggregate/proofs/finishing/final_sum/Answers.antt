@@ -1,8 +1,8 @@
 use Rattle.std.proofs.Common.{◌≡◌, ◌+◌, true, false, map, drop, refl, sym, ap, ◌∙◌, arith}
 use Rattle.std.proofs.lemmas.Result.{IfOk-weaker}
 use Rattle.lake_values.specs.Order.{number_of}
-use Rattle.lake_model.specs.Evaluation.{is_64_bits}
-use Rattle.lake_model.specs.Groups.{sum_of_both, summary}
+use Rattle.sql_model.specs.Evaluation.{is_64_bits}
+use Rattle.sql_model.specs.Groups.{sum_of_both, summary}
 use Rattle.row_evaluation.specs.Aggregates.{totalled}
 use Rattle.op_aggregate.specs.Partials.{column, whole}
 use Rattle.op_aggregate.proofs.Finals.{column_fits, summary_behind}

@@ -1,7 +1,7 @@
 use Rattle.std.proofs.Common.{◌≡◌, ◌++◌, drop}
 use Rattle.std.specs.List.{flat_map, AllByRecursion}
 use Rattle.lake_values.specs.Spelling.{value_spelling, IsValue}
-use Rattle.lake_model.specs.Groups as spec
+use Rattle.sql_model.specs.Groups as spec
 use Rattle.op_aggregate.proofs.groups.key_spelling.Given as goal
 
 abbrev pub invariant-loop-column : goal.invariant-loop-column

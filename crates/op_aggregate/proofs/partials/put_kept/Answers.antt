@@ -1,6 +1,6 @@
 use Rattle.std.proofs.Common.{rules, ◌≡◌, false, map, sym, ◌∙◌, arith}
 use Rattle.std.proofs.lemmas.List.{length-map}
-use Rattle.lake_model.specs.Groups.{aggregate_fits}
+use Rattle.sql_model.specs.Groups.{aggregate_fits}
 use Rattle.op_aggregate.proofs.Fitting.{others_fit}
 use Rattle.op_aggregate.proofs.partials.put_kept.Goals as goal
 

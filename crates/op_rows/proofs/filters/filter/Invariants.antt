@@ -1,6 +1,6 @@
 use Rattle.std.proofs.Common.{◌≡◌, ◌++◌, drop, filter}
 use Rattle.std.specs.List.{list_all}
-use Rattle.lake_model.specs.Writing.{is_matched, condition_fits}
+use Rattle.sql_model.specs.Writing.{is_matched, condition_fits}
 use Rattle.op_rows.proofs.filters.filter.Given as goal
 
 abbrev pub invariant-loop-place : goal.invariant-loop-place

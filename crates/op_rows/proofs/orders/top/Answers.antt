@@ -1,6 +1,6 @@
 use Rattle.std.proofs.Common.{List, subst, sym, ap, ◌∙◌}
 use Rattle.lake_values.specs.declared.values.Value.{Value}
-use Rattle.lake_model.specs.Query.{limited}
+use Rattle.sql_model.specs.Query.{limited}
 use Rattle.row_packet.specs.Packets.{HaveWidth}
 use Rattle.op_rows.proofs.Widths.{limited_width}
 use Rattle.op_rows.proofs.orders.top.Goals as goal

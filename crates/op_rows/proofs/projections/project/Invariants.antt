@@ -1,6 +1,6 @@
 use Rattle.std.proofs.Common.{◌≡◌, ◌++◌, drop, map, length}
 use Rattle.std.specs.List.{list_all}
-use Rattle.lake_model.specs.Evaluation.{all_fit, evaluated}
+use Rattle.sql_model.specs.Evaluation.{all_fit, evaluated}
 use Rattle.op_rows.proofs.projections.project.Given as goal
 
 abbrev pub invariant-loop-place : goal.invariant-loop-place

@@ -1,6 +1,6 @@
 use Rattle.std.proofs.Common.{◌≡◌, ◌++◌, drop, map, filter}
 use Rattle.std.specs.List.{list_all}
-use Rattle.lake_model.specs.Evaluation as spec
+use Rattle.sql_model.specs.Evaluation as spec
 use Rattle.plain_query.specs.Lists.{all_lent}
 use Rattle.plain_query.proofs.answers.keep.Given as goal
 

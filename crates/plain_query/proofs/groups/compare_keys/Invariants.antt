@@ -1,6 +1,6 @@
 use Rattle.std.proofs.Common.{◌≡◌, drop}
 use Rattle.lake_values.specs.Order.{row_cmp}
-use Rattle.lake_model.specs.Groups as spec
+use Rattle.sql_model.specs.Groups as spec
 use Rattle.plain_query.proofs.groups.compare_keys.Given as goal
 
 abbrev pub invariant-loop-column : goal.invariant-loop-column

@@ -1,6 +1,6 @@
 use Rattle.std.proofs.Common.{◌≡◌, ◌++◌, map, drop}
 use Rattle.std.specs.List.{list_all}
-use Rattle.lake_model.specs.Groups as spec
+use Rattle.sql_model.specs.Groups as spec
 use Rattle.plain_query.proofs.groups.group_row.Given as goal
 
 abbrev pub invariant-loop-agg : goal.invariant-loop-agg

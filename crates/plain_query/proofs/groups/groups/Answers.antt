@@ -2,8 +2,8 @@ use Rattle.std.proofs.Common.{rules, map, sym, subst, ◌∙◌}
 use Rattle.std.specs.List.Sorted.{IsSortedByKey}
 use Rattle.std.proofs.lemmas.Result.{IfOk-weaker}
 use Rattle.lake_values.specs.Order.{row_cmp}
-use Rattle.lake_model.specs.Groups.{key_of}
-use Rattle.lake_model.proofs.GroupBags.{same_groups_fit}
+use Rattle.sql_model.specs.Groups.{key_of}
+use Rattle.sql_model.proofs.GroupBags.{same_groups_fit}
 use Rattle.plain_query.proofs.SameGroups.{sorted_by_key, same_rows, made_without_keys, made_alike, no_columns}
 use Rattle.plain_query.proofs.groups.groups.Goals as goal
 

@@ -1,5 +1,5 @@
 use Rattle.std.proofs.Common.{rules, ◌++◌, map, refl, sym, ap, arith}
-use Rattle.lake_model.specs.Groups as spec
+use Rattle.sql_model.specs.Groups as spec
 use Rattle.plain_query.proofs.Runs.{keys_rise, first_group, run_has_first, some_columns, next_made, next_fits, whole_unfit}
 use Rattle.plain_query.proofs.groups.groups_of_sorted.Goals as goal
 

@@ -1,5 +1,5 @@
 use Rattle.std.proofs.Common.{◌≡◌, ◌++◌, map, length}
-use Rattle.lake_model.specs.Groups as spec
+use Rattle.sql_model.specs.Groups as spec
 use Rattle.plain_query.proofs.Runs.{KeysRise}
 use Rattle.plain_query.proofs.groups.groups_of_sorted.Given as goal
 

@@ -3,9 +3,9 @@ use Rattle.std.proofs.lemmas.Fn.{always_returns_same}
 use Rattle.std.proofs.lemmas.List.Sorted.{ranks_by}
 use Rattle.std.specs.Ordering.{is_lt}
 use Rattle.lake_values.specs.declared.values.Value.{Value}
-use Rattle.lake_model.specs.Query.{order_cmp}
-use Rattle.lake_model.proofs.BagLaw.{order_total, order_tells}
-use Rattle.lake_model.proofs.Sorting.{ordered_from_sort}
+use Rattle.sql_model.specs.Query.{order_cmp}
+use Rattle.sql_model.proofs.BagLaw.{order_total, order_tells}
+use Rattle.sql_model.proofs.Sorting.{ordered_from_sort}
 use Rattle.plain_query.proofs.orders.sort_by_keys.Goals as goal
 
 pub returns : goal.returns

@@ -1,5 +1,5 @@
 use Rattle.std.proofs.Common.{◌≡◌, ◌+◌, ◌≤◌, map, drop}
-use Rattle.lake_model.specs.Groups as spec
+use Rattle.sql_model.specs.Groups as spec
 use Rattle.row_evaluation.specs.Aggregates.{counted}
 use Rattle.row_evaluation.proofs.aggregates.count_of.Given as goal
 

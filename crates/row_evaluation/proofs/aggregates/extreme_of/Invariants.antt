@@ -1,5 +1,5 @@
 use Rattle.std.proofs.Common.{◌≡◌, map, drop}
-use Rattle.lake_model.specs.Groups as spec
+use Rattle.sql_model.specs.Groups as spec
 use Rattle.row_evaluation.specs.Aggregates.{kept_by}
 use Rattle.lake_values.specs.Lending.{owned, IsShort}
 use Rattle.row_evaluation.proofs.aggregates.extreme_of.Given as goal

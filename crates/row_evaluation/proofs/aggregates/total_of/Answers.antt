@@ -1,7 +1,7 @@
 use Rattle.std.proofs.Common.{◌∙◌, arith}
 use Rattle.std.proofs.lemmas.Int.{ints}
-use Rattle.lake_model.specs.Groups.{sum_of_both}
-use Rattle.lake_model.proofs.Summaries.{sum_swaps}
+use Rattle.sql_model.specs.Groups.{sum_of_both}
+use Rattle.sql_model.proofs.Summaries.{sum_swaps}
 use Rattle.row_evaluation.proofs.Folding.{fits_past, joined_past}
 use Rattle.row_evaluation.proofs.aggregates.total_of.Goals as goal
 

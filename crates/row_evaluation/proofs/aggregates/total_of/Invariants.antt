@@ -1,6 +1,6 @@
 use Rattle.std.proofs.Common.{◌≡◌, ◌*◌, ◌^◌, ◌≤ℤ◌, ◌+ℤ◌, pos, map, drop}
 use Rattle.lake_values.specs.Order.{number_of}
-use Rattle.lake_model.specs.Groups as spec
+use Rattle.sql_model.specs.Groups as spec
 use Rattle.row_evaluation.specs.Aggregates.{totalled, IsShortTotal}
 use Rattle.row_evaluation.proofs.aggregates.total_of.Given as goal
 

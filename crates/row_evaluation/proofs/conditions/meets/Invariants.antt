@@ -1,6 +1,6 @@
 use Rattle.std.proofs.Common.{◌≡◌, drop}
 use Rattle.std.specs.Prelude.{◌&&◌}
-use Rattle.lake_model.specs.Evaluation as spec
+use Rattle.sql_model.specs.Evaluation as spec
 use Rattle.row_evaluation.proofs.conditions.meets.Given as goal
 
 abbrev pub invariant-loop-condition : goal.invariant-loop-condition

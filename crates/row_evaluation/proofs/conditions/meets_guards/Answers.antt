@@ -1,5 +1,5 @@
 use Rattle.std.proofs.Common.{◌∙◌, sym}
-use Rattle.lake_model.specs.Evaluation as spec
+use Rattle.sql_model.specs.Evaluation as spec
 use Rattle.row_evaluation.specs.Conditions.{is_guard}
 use Rattle.row_evaluation.proofs.Loops.{all_past, all_here}
 use Rattle.row_evaluation.proofs.conditions.meets_guards.Goals as goal

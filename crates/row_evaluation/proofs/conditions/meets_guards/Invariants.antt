@@ -1,6 +1,6 @@
 use Rattle.std.proofs.Common.{◌≡◌, true, drop}
 use Rattle.std.specs.List.{list_all}
-use Rattle.lake_model.specs.Evaluation as spec
+use Rattle.sql_model.specs.Evaluation as spec
 use Rattle.row_evaluation.specs.Conditions.{is_guard}
 use Rattle.row_evaluation.proofs.conditions.meets_guards.Given as goal
 

@@ -1,5 +1,5 @@
 use Rattle.std.proofs.Common.{◌∙◌, ap, sym}
-use Rattle.lake_model.specs.BoundForms.{has_arithmetic}
+use Rattle.sql_model.specs.BoundForms.{has_arithmetic}
 use Rattle.row_evaluation.proofs.Parts.{compare_parts, and_parts, or_parts, at_error}
 use Rattle.row_evaluation.proofs.evaluation.+look.Goals as goal
 

@@ -1,5 +1,5 @@
 use Rattle.std.proofs.Common.{◌≡◌, ◌++◌, drop}
-use Rattle.lake_model.specs.Groups as spec
+use Rattle.sql_model.specs.Groups as spec
 use Rattle.row_evaluation.proofs.keys.key_of.Given as goal
 
 abbrev pub invariant-loop-column : goal.invariant-loop-column

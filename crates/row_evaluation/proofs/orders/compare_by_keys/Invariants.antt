@@ -1,5 +1,5 @@
 use Rattle.std.proofs.Common.{◌≡◌, drop}
-use Rattle.lake_model.specs.Query.{order_cmp}
+use Rattle.sql_model.specs.Query.{order_cmp}
 use Rattle.row_evaluation.proofs.orders.compare_by_keys.Given as goal
 
 abbrev pub invariant-loop-key : goal.invariant-loop-key

@@ -1,5 +1,5 @@
 use Rattle.std.proofs.Common.{◌≡◌, ◌++◌, drop}
-use Rattle.lake_model.specs.Evaluation as spec
+use Rattle.sql_model.specs.Evaluation as spec
 use Rattle.row_evaluation.proofs.rows.evaluated.Given as goal
 
 abbrev pub invariant-loop-item : goal.invariant-loop-item

@@ -1,6 +1,6 @@
 use Rattle.std.proofs.Common.{◌≡◌, drop}
 use Rattle.std.specs.List.{list_all}
-use Rattle.lake_model.specs.Binding.{is_wide}
+use Rattle.sql_model.specs.Binding.{is_wide}
 use Rattle.sql_binder.proofs.binding.are_wide.Given as goal
 
 abbrev pub invariant-loop-row : goal.invariant-loop-row

@@ -1,5 +1,5 @@
 use Rattle.std.proofs.Common.{◌≡◌, ◌++◌, drop}
-use Rattle.lake_model.specs.BoundForms.{changed_row}
+use Rattle.sql_model.specs.BoundForms.{changed_row}
 use Rattle.sql_binder.proofs.forms.changed_row.Given as goal
 
 abbrev pub invariant-loop-place : goal.invariant-loop-place

@@ -1,5 +1,5 @@
 use Rattle.std.proofs.Common.{◌≡◌, drop}
-use Rattle.lake_model.specs.BoundForms.{new_value}
+use Rattle.sql_model.specs.BoundForms.{new_value}
 use Rattle.sql_binder.proofs.forms.new_value.Given as goal
 
 abbrev pub invariant-loop-set : goal.invariant-loop-set

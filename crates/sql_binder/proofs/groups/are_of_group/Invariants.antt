@@ -1,6 +1,6 @@
 use Rattle.std.proofs.Common.{◌≡◌, drop}
 use Rattle.std.specs.List.{list_all}
-use Rattle.lake_model.specs.Binding.{is_of_group}
+use Rattle.sql_model.specs.Binding.{is_of_group}
 use Rattle.sql_binder.proofs.groups.are_of_group.Given as goal
 
 abbrev pub invariant-loop-item : goal.invariant-loop-item

@@ -1,5 +1,5 @@
 use Rattle.std.proofs.Common.{◌≡◌, ◌≤◌, ◌++◌, drop, length}
-use Rattle.lake_model.specs.BoundForms as form
+use Rattle.sql_model.specs.BoundForms as form
 use Rattle.sql_binder.proofs.outputs.all_columns.Given as goal
 
 abbrev pub invariant-loop-place : goal.invariant-loop-place

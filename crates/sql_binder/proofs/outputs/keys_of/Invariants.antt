@@ -1,5 +1,5 @@
 use Rattle.std.proofs.Common.{◌≡◌, ◌++◌, drop}
-use Rattle.lake_model.specs.BoundForms as form
+use Rattle.sql_model.specs.BoundForms as form
 use Rattle.sql_binder.proofs.outputs.keys_of.Given as goal
 
 abbrev pub invariant-loop-group : goal.invariant-loop-group

@@ -1,6 +1,6 @@
 use Rattle.std.proofs.Common.{◌≡◌, drop}
 use Rattle.std.specs.List.{list_any}
-use Rattle.lake_model.specs.Scopes.{fits}
+use Rattle.sql_model.specs.Scopes.{fits}
 use Rattle.sql_binder.proofs.scopes.fits_some.Given as goal
 
 abbrev pub invariant-loop-heading : goal.invariant-loop-heading

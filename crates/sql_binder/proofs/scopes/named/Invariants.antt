@@ -1,5 +1,5 @@
 use Rattle.std.proofs.Common.{◌≡◌, drop}
-use Rattle.lake_model.specs.Scopes.{fits, found_from}
+use Rattle.sql_model.specs.Scopes.{fits, found_from}
 use Rattle.sql_binder.proofs.scopes.named.Given as goal
 
 abbrev pub invariant-loop-place : goal.invariant-loop-place

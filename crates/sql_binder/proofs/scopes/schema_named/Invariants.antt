@@ -1,5 +1,5 @@
 use Rattle.std.proofs.Common.{◌≡◌, drop}
-use Rattle.lake_model.specs.Scopes.{schema_named}
+use Rattle.sql_model.specs.Scopes.{schema_named}
 use Rattle.sql_binder.proofs.scopes.schema_named.Given as goal
 
 abbrev pub invariant-loop-entry : goal.invariant-loop-entry

@@ -1,6 +1,6 @@
 use Rattle.std.proofs.Common.{◌≡◌, drop}
 use Rattle.std.specs.List.{list_all}
-use Rattle.lake_model.specs.Types.{is_typed_item}
+use Rattle.sql_model.specs.Types.{is_typed_item}
 use Rattle.sql_binder.proofs.types.are_typed_items.Given as goal
 
 abbrev pub invariant-loop-item : goal.invariant-loop-item

@@ -1,6 +1,6 @@
 use Rattle.std.proofs.Common.{◌≡◌, drop}
 use Rattle.std.specs.List.{list_all}
-use Rattle.lake_model.specs.Types.{is_typed_pair}
+use Rattle.sql_model.specs.Types.{is_typed_pair}
 use Rattle.sql_binder.proofs.types.are_typed_pairs.Given as goal
 
 abbrev pub invariant-loop-pair : goal.invariant-loop-pair

@@ -1,6 +1,6 @@
 use Rattle.std.proofs.Common.{◌≡◌, drop}
 use Rattle.std.specs.List.{list_all}
-use Rattle.lake_model.specs.Types.{are_typed_values}
+use Rattle.sql_model.specs.Types.{are_typed_values}
 use Rattle.sql_binder.proofs.types.are_typed_rows.Given as goal
 
 abbrev pub invariant-loop-row : goal.invariant-loop-row

@@ -24,8 +24,8 @@ decreases-sum l = 15 * l.levels + 6
 abbrev pub decreases-tested : goal.decreases-tested
 decreases-tested l = 15 * l.levels + 7
 
-abbrev pub decreases-test : goal.decreases-test
-decreases-test l = 15 * l.levels + 8
+abbrev pub decreases-predicate : goal.decreases-predicate
+decreases-predicate l = 15 * l.levels + 8
 
 abbrev pub decreases-negation : goal.decreases-negation
 decreases-negation l = 15 * l.levels + 9

@@ -1,9 +1,9 @@
 use Rattle.std.proofs.Common.{sym, ◌∙◌, ◌<◌, arith, length}
 use Rattle.std.proofs.lemmas.Result.{err_from_is_err_and}
-use Rattle.predictive_grammar.specs.Grammars.{listed}
-use Rattle.predictive_grammar.specs.Phrases.{has_room}
-use Rattle.predictive_grammar.specs.Prediction.{begins, first_of}
-use Rattle.predictive_grammar.specs.Reading.{read, read_member}
+use Rattle.grammar_laws.specs.Grammars.{listed}
+use Rattle.grammar_laws.specs.Phrases.{has_room}
+use Rattle.grammar_laws.specs.Prediction.{begins, first_of}
+use Rattle.grammar_laws.specs.Reading.{read, read_member}
 use Rattle.sql_parser.specs.Ahead.{reading, most_levels}
 use Rattle.sql_parser.specs.Classes.{words}
 use Rattle.sql_parser.specs.Grammar.{rules}

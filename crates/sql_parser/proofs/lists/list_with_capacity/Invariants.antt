@@ -1,5 +1,5 @@
 use Rattle.std.proofs.Common.{Some, length}
-use Rattle.predictive_grammar.specs.Grammars.{listed}
+use Rattle.grammar_laws.specs.Grammars.{listed}
 use Rattle.sql_parser.specs.Ahead.{reading, most_levels}
 use Rattle.sql_parser.specs.Separators.{separator_class}
 use Rattle.sql_parser.proofs.ListLoops.{Completes}

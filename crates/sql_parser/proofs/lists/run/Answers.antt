@@ -1,6 +1,6 @@
 use Rattle.std.proofs.Common.{sym, ◌∙◌, None, Some}
-use Rattle.predictive_grammar.specs.Grammars.{many}
-use Rattle.predictive_grammar.specs.Phrases.{has_room}
+use Rattle.grammar_laws.specs.Grammars.{many}
+use Rattle.grammar_laws.specs.Phrases.{has_room}
 use Rattle.sql_parser.specs.Ahead.{reading, most_levels}
 use Rattle.sql_parser.proofs.ListLoops.{run_goes_on, member_shrinks}
 use Rattle.sql_parser.proofs.lists.run.Goals as goal

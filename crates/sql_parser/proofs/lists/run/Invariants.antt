@@ -1,5 +1,5 @@
 use Rattle.std.proofs.Common.{None, Some, length}
-use Rattle.predictive_grammar.specs.Grammars.{many}
+use Rattle.grammar_laws.specs.Grammars.{many}
 use Rattle.sql_parser.specs.Ahead.{reading, most_levels}
 use Rattle.sql_parser.proofs.ListLoops.{Completes}
 use Rattle.sql_parser.proofs.lists.run.Given as goal

@@ -1,10 +1,10 @@
 use Rattle.std.proofs.Common.{◌≡◌, ◌∙◌, sym, ap, List, Result, Err}
-use Rattle.lake_model.specs.declared.scripts.Step.{Step}
+use Rattle.sql_model.specs.declared.scripts.Step.{Step}
 use Rattle.sql_tokens.specs.declared.faults.ParseFault.{ParseFault}
 use Rattle.sql_tokens.specs.declared.faults.ParseFault.TheVariants.{Refused}
 use Rattle.sql_tokens.specs.declared.faults.ScriptBad.{ScriptBad}
 use Rattle.sql_tokens.specs.Places.{bad_of}
-use Rattle.predictive_grammar.specs.Reading.{Syntax}
+use Rattle.grammar_laws.specs.Reading.{Syntax}
 use Rattle.sql_parser.specs.Refusals.{refused_next}
 use Rattle.sql_parser.proofs.ReadLines.{steps_ready}
 use Rattle.sql_parser.proofs.Judging.{AtFirst, all_read, left_over, stopped}

@@ -1,5 +1,5 @@
 use Rattle.std.proofs.Common.{◌∙◌, ap, sym, nat_lt, List, map, ◌++◌}
-use Rattle.lake_model.specs.declared.entries.MarkedRow.{MarkedRow}
+use Rattle.sql_model.specs.declared.changes.MarkedRow.{MarkedRow}
 use Rattle.table_history.specs.Stores.{marked_of}
 use Rattle.table_history.specs.Strikes.{less, remaining}
 use Rattle.table_history.proofs.StoreLemmas.{put_struck, put_left}

@@ -1,7 +1,7 @@
 use Rattle.std.proofs.Common.{◌≤◌, ◌∙◌, List, ℕ, ap, refl, sym, subst, arith, length}
 use Rattle.std.specs.List.{AllByRecursion}
 use Rattle.std.proofs.lemmas.List.{length-replicate}
-use Rattle.lake_model.specs.declared.entries.MarkedRow.{MarkedRow}
+use Rattle.sql_model.specs.declared.changes.MarkedRow.{MarkedRow}
 use Rattle.table_history.specs.Stores.{stamped}
 use Rattle.table_history.specs.Strikes.{remaining}
 use Rattle.table_history.proofs.StrikeLemmas.{unused_all, unused_remaining}

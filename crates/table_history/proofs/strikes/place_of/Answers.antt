@@ -1,7 +1,7 @@
 use Rattle.std.proofs.Common.{arith, rules}
 use Rattle.std.specs.Ordering.{is_lt}
 use Rattle.std.proofs.lemmas.List.Sorted.{IsPartitionPoint-from_clause}
-use Rattle.lake_model.specs.Changes.{marked_cmp}
+use Rattle.sql_model.specs.Changes.{marked_cmp}
 use Rattle.table_history.specs.Stores.{marked_of}
 use Rattle.table_history.proofs.StrikeLemmas.{parted, point_below}
 use Rattle.table_history.proofs.strikes.place_of.Goals as goal

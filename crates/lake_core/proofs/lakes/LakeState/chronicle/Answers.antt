@@ -2,7 +2,7 @@ use Rattle.std.proofs.Common.{◌∙◌, ap, sym, subst, map}
 use Rattle.lake_model.specs.Allowed.{IsLegal}
 use Rattle.lake_model.specs.State.{Noted}
 use Rattle.lake_core.specs.Lakes.{Lake}
-use Rattle.lake_core.proofs.HomeLemmas.{entries_back}
+use Rattle.lake_core.proofs.ConsistencyLemmas.{entries_back}
 use Rattle.lake_core.proofs.lakes.LakeState.chronicle.Goals as goal
 
 pub returns-clause-entries : goal.returns-clause-entries

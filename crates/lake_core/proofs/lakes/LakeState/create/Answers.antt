@@ -2,12 +2,12 @@ use Rattle.std.proofs.Common.{◌≡◌, ◌∙◌, ap, sym, subst, List, ℕ}
 use Rattle.std.specs.Prelude.{IfOk, OnOk}
 use Rattle.lake_model.specs.declared.entries.Fact.{Fact}
 use Rattle.lake_model.specs.declared.entries.Fact.TheVariants as fact
-use Rattle.lake_model.specs.declared.replies.Refusal.TheVariants.{TableExists}
+use Rattle.sql_model.specs.declared.replies.Refusal.TheVariants.{TableExists}
 use Rattle.lake_model.specs.State.{newest, transaction}
-use Rattle.lake_model.specs.Versions.{has_table}
+use Rattle.sql_model.specs.Versions.{has_table}
 use Rattle.lake_core.specs.Facts as facts
 use Rattle.lake_core.specs.Lakes.{Adds, state_of}
-use Rattle.lake_core.proofs.HomeLemmas.{free_creates, inside_creates, is_none_from, seen_inside, seen_outside, seen_table, taken_creates}
+use Rattle.lake_core.proofs.ConsistencyLemmas.{free_creates, inside_creates, is_none_from, seen_inside, seen_outside, seen_table, taken_creates}
 use Rattle.lake_core.proofs.lakes.LakeState.create.Goals as goal
 
 pub refuse-requires-clause-allowed : goal.refuse-requires-clause-allowed

@@ -1,9 +1,9 @@
 use Rattle.std.proofs.Common.{◌∙◌, ap}
 use Rattle.lake_model.specs.State.{newest, state}
-use Rattle.lake_model.specs.Versions.{Tables, has_table}
-use Rattle.lake_core.specs.Homes.{chronicle_of}
+use Rattle.sql_model.specs.Versions.{Tables, has_table}
+use Rattle.lake_core.specs.Consistency.{chronicle_of}
 use Rattle.lake_core.specs.Lakes.{Lake, state_of}
-use Rattle.lake_core.proofs.HomeLemmas.{newest_same}
+use Rattle.lake_core.proofs.ConsistencyLemmas.{newest_same}
 use Rattle.lake_core.proofs.lakes.LakeState.has_table.Goals as goal
 
 pub returns : goal.returns

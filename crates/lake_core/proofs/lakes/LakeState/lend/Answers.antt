@@ -1,7 +1,7 @@
 use Rattle.std.proofs.Common.{◌∙◌, ap, sym, subst}
 use Rattle.std.specs.Prelude.{IsSome}
 use Rattle.lake_model.specs.State.{state, transaction, view}
-use Rattle.lake_core.specs.Homes.{chronicle_of}
+use Rattle.lake_core.specs.Consistency.{chronicle_of}
 use Rattle.lake_core.specs.Lakes.{Lake, state_of}
 use Rattle.lake_core.proofs.OpenLemmas.{found_at, open_at}
 use Rattle.lake_core.proofs.ReserveLemmas.{open_found}

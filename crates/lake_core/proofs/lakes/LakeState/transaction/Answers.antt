@@ -1,10 +1,10 @@
 use Rattle.std.proofs.Common.{◌∙◌, ap}
 use Rattle.std.specs.Option.{option_map}
 use Rattle.lake_model.specs.State.{state, transaction}
-use Rattle.lake_core.specs.Homes.{chronicle_of}
+use Rattle.lake_core.specs.Consistency.{chronicle_of}
 use Rattle.lake_core.specs.Lakes.{Lake, state_of}
 use Rattle.lake_core.specs.Opened.{opened}
-use Rattle.lake_core.proofs.HomeLemmas.{transaction_none, transaction_some}
+use Rattle.lake_core.proofs.ConsistencyLemmas.{transaction_none, transaction_some}
 use Rattle.lake_core.proofs.lakes.LakeState.transaction.Goals as goal
 
 pub returns-in-Some : goal.returns-in-Some

@@ -1,8 +1,9 @@
 use Rattle.std.proofs.Common.{◌∙◌, ◌++◌, ap, sym, map, flat_map, filter, List}
 use Rattle.std.specs.Option.{option_copied}
-use Rattle.lake_model.specs.declared.entries.MarkedRow.{MarkedRow}
-use Rattle.lake_model.specs.Changes.{added_to, marked_cmp, without}
-use Rattle.lake_model.specs.Versions.{Tables, marked_rows_of, same_text}
+use Rattle.sql_model.specs.declared.changes.MarkedRow.{MarkedRow}
+use Rattle.sql_model.specs.Changes.{added_to, marked_cmp, without}
+use Rattle.sql_model.specs.Versions.{Tables, marked_rows_of}
+use Rattle.lake_values.specs.Texts.{same_text}
 use Rattle.table_history.specs.Histories.{change_from, tables_in}
 use Rattle.table_history.specs.Stores.{marked_of}
 use Rattle.table_history.specs.declared.kept.ViewRow.{ViewRow}

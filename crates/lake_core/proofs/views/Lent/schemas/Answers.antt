@@ -1,8 +1,8 @@
 use Rattle.std.proofs.Common.{◌≡◌, ◌∙◌, ap, sym, subst}
 use Rattle.std.specs.Prelude.{IfOk}
-use Rattle.lake_model.specs.Scopes.{TableSchemas}
-use Rattle.lake_model.specs.Versions.{Tables}
-use Rattle.lake_model.specs.Writing.{schemas_of}
+use Rattle.sql_model.specs.Scopes.{TableSchemas}
+use Rattle.sql_model.specs.Versions.{Tables}
+use Rattle.sql_model.specs.Writing.{schemas_of}
 use Rattle.table_history.specs.Histories.{change_from, tables_in}
 use Rattle.lake_core.proofs.SnapshotLemmas.{schemas_applied}
 use Rattle.lake_core.proofs.views.Lent.schemas.Goals as goal

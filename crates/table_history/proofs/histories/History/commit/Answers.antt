@@ -1,6 +1,6 @@
 use Rattle.std.proofs.Common.{◌+◌, ◌<◌, ◌^◌, ◌∙◌, List, ℕ, ap, sym, map, subst, refl}
-use Rattle.lake_model.specs.Changes.{applied}
-use Rattle.table_history.specs.Histories.{GrowsBy, History, change_from, has_room, last_of, newest_of, rows_for}
+use Rattle.sql_model.specs.Changes.{applied}
+use Rattle.table_history.specs.Histories.{GrowsBy, History, change_from, has_spare_rows, last_of, newest_of, rows_for}
 use Rattle.table_history.specs.Stores.{HaveOwnNames, IsKept, Stored, grown_stores, history_of, spare_at, stamped_store, stored}
 use Rattle.table_history.proofs.StoreLemmas.{own_kept}
 use Rattle.table_history.proofs.HistoryLemmas.{commit_grows, committed_kept, last_is}
@@ -15,7 +15,7 @@ add_parts-requires-clause-own_names c =
 pub add_parts-requires-clause-room : goal.add_parts-requires-clause-room
 add_parts-requires-clause-room c = λ name.
     let spares = ap (λ (s : History). s.spares) c.self.view_is in
-    ap (λ (ss : List (List ℕ × ℕ)). has_room ss name (rows_for name c.args.added.items)) (c.stamp_stores.ensures.spares ∙ spares) ∙ c.requires.room name
+    ap (λ (ss : List (List ℕ × ℕ)). has_spare_rows ss name (rows_for name c.args.added.items)) (c.stamp_stores.ensures.spares ∙ spares) ∙ c.requires.room name
 
 pub invariant_of-self : goal.invariant_of-self
 invariant_of-self c =
@@ -41,4 +41,4 @@ returns-clause-made c =
 pub returns-clause-room : goal.returns-clause-room
 returns-clause-room c = λ name rows room.
     let spares = ap (λ (s : History). s.spares) c.self.view_is in
-    c.add_parts.ensures.room name rows (ap (λ (ss : List (List ℕ × ℕ)). has_room ss name (rows_for name c.args.added.items + rows)) (c.stamp_stores.ensures.spares ∙ spares) ∙ room)
+    c.add_parts.ensures.room name rows (ap (λ (ss : List (List ℕ × ℕ)). has_spare_rows ss name (rows_for name c.args.added.items + rows)) (c.stamp_stores.ensures.spares ∙ spares) ∙ room)

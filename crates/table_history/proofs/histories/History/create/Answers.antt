@@ -1,9 +1,9 @@
 use Rattle.std.proofs.Common.{◌≡◌, ◌+◌, ◌<◌, ◌^◌, ◌∙◌, ◌++◌, ◌∷◌, [], List, ℕ, ap, sym, map, subst, refl, false, arith}
 use Rattle.std.proofs.lemmas.List.{map_push}
-use Rattle.lake_model.specs.Versions.{has_table}
+use Rattle.sql_model.specs.Versions.{has_table}
 use Rattle.table_history.specs.declared.kept.Kept.{Kept}
 use Rattle.table_history.specs.declared.stores.Store.{Store}
-use Rattle.table_history.specs.Histories.{GrowsBy, History, has_room, last_of, newest_of}
+use Rattle.table_history.specs.Histories.{GrowsBy, History, has_spare_rows, last_of, newest_of}
 use Rattle.table_history.specs.Stores.{IsKept, Stored, history_of, spare_at, stored, tables_at}
 use Rattle.table_history.proofs.HistoryLemmas.{created_grows, created_kept, created_others, created_room, last_is, new_store, newest_is, none_new}
 use Rattle.table_history.proofs.histories.History.create.Goals as goal
@@ -40,10 +40,10 @@ returns-clause-room c =
     let ss = map stored h.stores.items in
     let newest = newest_is ss (map spare_at h.stores.items) h.first h.last c.self.invariant.first_within in
     let absent : has_table c.args.name (tables_at h.last ss) ≡ false = ap (has_table c.args.name) (sym newest ∙ ap newest_of c.self.view_is) ∙ c.requires.absent in
-    ap (λ (ys : List Store). has_room (map spare_at ys) c.args.name c.args.rows) c.in_ok-push.ensures.items
+    ap (λ (ys : List Store). has_spare_rows (map spare_at ys) c.args.name c.args.rows) c.in_ok-push.ensures.items
     ∙ created_room c.args.name c.args.rows h.stores.items _ (none_new c.args.name h.last ss c.self.invariant.stamps absent) refl c.in_ok-with_capacity.ensures.len (omega (arith, c.in_ok-with_capacity.ensures.exact))
 
 pub returns-clause-others : goal.returns-clause-others
 returns-clause-others c = λ other more differ room.
-    ap (λ (ys : List Store). has_room (map spare_at ys) other more) c.in_ok-push.ensures.items
-    ∙ created_others other more c.self.inside.stores.items _ differ (ap (λ (s : History). has_room s.spares other more) c.self.view_is ∙ room)
+    ap (λ (ys : List Store). has_spare_rows (map spare_at ys) other more) c.in_ok-push.ensures.items
+    ∙ created_others other more c.self.inside.stores.items _ differ (ap (λ (s : History). has_spare_rows s.spares other more) c.self.view_is ∙ room)

@@ -1,6 +1,6 @@
 use Rattle.std.proofs.Common.{◌∙◌, ◌∷◌, [], List, ap, sym, map, subst}
-use Rattle.lake_model.specs.Versions.{Tables}
-use Rattle.table_history.specs.Histories.{History, has_room, last_of, newest_of}
+use Rattle.sql_model.specs.Versions.{Tables}
+use Rattle.table_history.specs.Histories.{History, has_spare_rows, last_of, newest_of}
 use Rattle.table_history.specs.Stores.{IsKept, Stored, spare_at, stored, tables_at}
 use Rattle.table_history.proofs.HistoryLemmas.{alone, cleared_kept, cleared_same, last_is, newest_is}
 use Rattle.table_history.proofs.histories.History.forget.Goals as goal
@@ -27,4 +27,4 @@ returns-clause-tables c =
 
 pub returns-clause-keeps : goal.returns-clause-keeps
 returns-clause-keeps c = λ name rows room.
-    c.clear_stores.ensures.room name rows (ap (λ (s : History). has_room s.spares name rows) c.self.view_is ∙ room)
+    c.clear_stores.ensures.room name rows (ap (λ (s : History). has_spare_rows s.spares name rows) c.self.view_is ∙ room)

@@ -1,5 +1,5 @@
 use Rattle.std.proofs.Common.{◌∙◌, ap, sym, map}
-use Rattle.lake_model.specs.Versions.{has_table}
+use Rattle.sql_model.specs.Versions.{has_table}
 use Rattle.table_history.specs.Histories.{History, newest_of}
 use Rattle.table_history.specs.Stores.{spare_at, stored}
 use Rattle.table_history.proofs.HistoryLemmas.{has_there, newest_is}

@@ -1,8 +1,9 @@
 use Rattle.std.proofs.Common.{◌≡◌, ◌≤◌, ◌<◌, ◌∙◌, ap, sym, map, filter, arith, nat_le, true, false, Option, Ok, Err, IfOk, ℕ, List, []}
 use Rattle.std.specs.Option.{option_map_or}
-use Rattle.lake_model.specs.declared.entries.MarkedRow.{MarkedRow}
-use Rattle.lake_model.specs.Changes.{marked_cmp, without}
-use Rattle.lake_model.specs.Versions.{Table, table_of, marked_rows_of, same_text}
+use Rattle.sql_model.specs.declared.changes.MarkedRow.{MarkedRow}
+use Rattle.sql_model.specs.Changes.{marked_cmp, without}
+use Rattle.sql_model.specs.Versions.{Table, table_of, marked_rows_of}
+use Rattle.lake_values.specs.Texts.{same_text}
 use Rattle.table_history.specs.declared.kept.ViewRow.{ViewRow}
 use Rattle.table_history.specs.Histories.{tables_in}
 use Rattle.table_history.specs.Strikes.{struck, times}

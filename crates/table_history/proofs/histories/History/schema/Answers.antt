@@ -1,6 +1,6 @@
 use Rattle.std.proofs.Common.{◌≡◌, ◌≤◌, ◌<◌, ◌∙◌, ap, sym, map, arith, nat_le, true, false, ℕ}
 use Rattle.std.specs.Option.{option_map}
-use Rattle.lake_model.specs.Versions.{Table, table_of}
+use Rattle.sql_model.specs.Versions.{Table, table_of}
 use Rattle.table_history.specs.Stores.{stored}
 use Rattle.table_history.proofs.PlaceLemmas.{found_at, found_nowhere}
 use Rattle.table_history.proofs.HistoryLemmas.{nowhere_new, table_later, table_nowhere, table_there, tables_seen}

@@ -1,5 +1,5 @@
 use Rattle.std.proofs.Common.{◌∙◌, ◌++◌, List, ap, sym, map}
-use Rattle.lake_model.specs.Writing.{schemas_of}
+use Rattle.sql_model.specs.Writing.{schemas_of}
 use Rattle.std.proofs.lemmas.List.{append-nil, drop_all}
 use Rattle.table_history.specs.declared.stores.Store.{Store}
 use Rattle.table_history.specs.Stores.{stored, tables_at}

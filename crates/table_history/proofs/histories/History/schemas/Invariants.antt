@@ -1,5 +1,5 @@
 use Rattle.std.proofs.Common.{◌≡◌, ◌++◌, map, drop}
-use Rattle.lake_model.specs.Writing.{schemas_of}
+use Rattle.sql_model.specs.Writing.{schemas_of}
 use Rattle.table_history.specs.Stores.{stored, tables_at}
 use Rattle.table_history.proofs.histories.History.schemas.Given as goal
 

@@ -1,7 +1,7 @@
 use Rattle.std.proofs.Common.{◌≤◌, ◌++◌, ◌∙◌, List, ℕ, ap, sym, subst, arith, length, map}
 use Rattle.std.specs.List.{AllByRecursion}
 use Rattle.std.proofs.lemmas.List.{length-replicate}
-use Rattle.lake_model.specs.declared.entries.MarkedRow.{MarkedRow}
+use Rattle.sql_model.specs.declared.changes.MarkedRow.{MarkedRow}
 use Rattle.table_history.specs.declared.kept.Kept.{Kept}
 use Rattle.table_history.specs.declared.kept.ViewRow.{ViewRow}
 use Rattle.table_history.specs.Stores.{marked_of, rows_at}

@@ -1,0 +1,6 @@
+pub mod Definitions
+pub mod Grammars
+pub mod Laws
+pub mod Phrases
+pub mod Prediction
+pub mod Reading

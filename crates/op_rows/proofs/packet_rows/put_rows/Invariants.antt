@@ -1,5 +1,0 @@
-use Rattle.std.proofs.Common.{◌≡◌, ◌++◌, drop}
-use Rattle.op_rows.proofs.packet_rows.put_rows.Given as goal
-
-abbrev pub invariant-loop-place : goal.invariant-loop-place
-invariant-loop-place l = l.rows.items ++ drop l.place l.packet.rows ≡ l.fn.rows.items ++ l.packet.rows

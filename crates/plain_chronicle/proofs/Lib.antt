@@ -1,6 +1,0 @@
-pub mod AnswerLemmas
-pub mod CompactionLemmas
-pub mod ConflictLemmas
-pub mod NotingLemmas
-pub mod PartLemmas
-pub mod ResultLemmas

@@ -1,6 +1,0 @@
-use Rattle.std.proofs.Common.{◌≡◌, ◌++◌, drop}
-use Rattle.lake_model.specs.Versions.{all_rows}
-use Rattle.plain_chronicle.proofs.allowed.all_rows.Given as goal
-
-abbrev pub invariant-loop-table : goal.invariant-loop-table
-invariant-loop-table l = l.rows.items ++ all_rows (drop l.table-index l.tables) ≡ all_rows l.tables

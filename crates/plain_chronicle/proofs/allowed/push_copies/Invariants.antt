@@ -1,5 +1,0 @@
-use Rattle.std.proofs.Common.{◌≡◌, ◌++◌, drop}
-use Rattle.plain_chronicle.proofs.allowed.push_copies.Given as goal
-
-abbrev pub invariant-loop-row : goal.invariant-loop-row
-invariant-loop-row l = l.out.items ++ drop l.row-index l.rows ≡ l.initial.out.items ++ l.rows

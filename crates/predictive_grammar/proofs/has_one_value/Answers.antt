@@ -1,5 +1,0 @@
-use Rattle.predictive_grammar.proofs.Theorems
-use Rattle.predictive_grammar.proofs.has_one_value.Goals as goal
-
-pub returns : goal.returns
-returns g c = Theorems.has_one_value g.L.Language.definition g.L.Language.predictive

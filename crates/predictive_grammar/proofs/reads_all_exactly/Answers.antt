@@ -1,8 +1,0 @@
-use Rattle.predictive_grammar.proofs.Places
-use Rattle.predictive_grammar.proofs.reads_all_exactly.Goals as goal
-
-pub returns-clause-found : goal.returns-clause-found
-returns-clause-found g c = Places.reads_exactly_sentences g.L.Language.definition g.L.Language.predictive
-
-pub returns-clause-refused : goal.returns-clause-refused
-returns-clause-refused g c = Places.refuses_exactly_first_place g.L.Language.definition g.L.Language.predictive

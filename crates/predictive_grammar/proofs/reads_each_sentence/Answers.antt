@@ -1,8 +1,0 @@
-use Rattle.predictive_grammar.proofs.Theorems
-use Rattle.predictive_grammar.proofs.reads_each_sentence.Goals as goal
-
-pub returns-clause-kept : goal.returns-clause-kept
-returns-clause-kept g c = Theorems.reads_each_sentence g.L.Language.definition g.L.Language.predictive
-
-pub returns-clause-any : goal.returns-clause-any
-returns-clause-any g c = Theorems.reads_or_meets_limit g.L.Language.definition g.L.Language.predictive

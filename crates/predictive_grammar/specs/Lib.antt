@@ -1,7 +1,0 @@
-pub mod Definitions
-pub mod Grammars
-pub mod Laws
-pub mod Phrases
-pub mod Prediction
-pub mod Reading
-pub mod Sums

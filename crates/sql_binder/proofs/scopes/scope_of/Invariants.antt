@@ -1,9 +1,0 @@
-use Rattle.std.proofs.Common.{◌≡◌, ◌≤◌, ◌*◌, ◌++◌, length, drop}
-use Rattle.lake_model.specs.Scopes.{scope_of}
-use Rattle.sql_binder.proofs.scopes.scope_of.Given as goal
-
-abbrev pub invariant-loop-source : goal.invariant-loop-source
-invariant-loop-source l = record {
-  told : l.scope.items ++ scope_of l.schemas (drop l.source-index l.sources) ≡ scope_of l.schemas l.sources;
-  few : length l.scope.items ≤ 64 * l.source-index;
-}

@@ -1,0 +1,10 @@
+pub mod Lists
+pub mod Sorting
+pub mod MarkOrder
+pub mod Bags
+pub mod Summaries
+pub mod GroupBags
+pub mod BagLaw
+pub mod Removal
+pub mod BoundKinds
+pub mod Crossing

@@ -1,0 +1,17 @@
+pub mod Listing
+pub mod Units
+pub mod Versions
+pub mod StatementKinds
+pub mod ScriptStatements
+pub mod Scopes
+pub mod Types
+pub mod Mentions
+pub mod BoundForms
+pub mod Binding
+pub mod Form
+pub mod Creating
+pub mod Evaluation
+pub mod Groups
+pub mod Query
+pub mod Changes
+pub mod Writing
