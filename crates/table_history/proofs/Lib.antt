@@ -2,4 +2,3 @@ pub mod StrikeLemmas
 pub mod StoreLemmas
 pub mod PlaceLemmas
 pub mod HistoryLemmas
-mod RoomLemmas
