@@ -1,19 +1,24 @@
-//! How fast column files are written and read, scripts are read, and operators work on packets. The first word says
-//! which, and the numbers behind it how many rows or members: `formats N`, `scripts N`, `operators J N`, or `all` for
-//! each with a thousand. Standard output says what was done, standard error how fast.
+//! How fast column files are written and read, scripts are read, operators work on packets, files
+//! are staged, and the items of manifests are replayed. The first word says which, and the numbers
+//! behind it how many rows, members or items: `formats N`, `scripts N`, `operators J N`,
+//! `writes N`, `files N`, or `all` for each with a thousand. Standard output says what was done,
+//! standard error how fast.
 #![tactic(auto)]
 
+mod files;
 mod formats;
 mod operators;
 mod rates;
 mod scripts;
 mod stops;
+mod writes;
 
 use crate::stops::Stop;
 use std::alloc::Global;
 use std::env;
 use std::process::ExitCode;
 use std::rt::{Clock, Env};
+use std::sync::Wait;
 
 /// How many of each `all` takes.
 const FEW: u32 = 1000;
@@ -29,7 +34,10 @@ fn main(rt: HostRuntime) -> ExitCode {
     }
 }
 
-fn run(rt: &(impl Print + Eprint + Clock + Env + AllocGlobal)) -> Result<(), Stop> {
+fn run<R>(rt: &R) -> Result<(), Stop>
+where
+    R: Print + Eprint + Clock + Env + AllocGlobal + Wait + Sync + Copy,
+{
     let mut words = env::args(rt)?.skip(1);
     let command = words.next().ok_or(Stop::Usage)?;
     let mut numbers = Vec::new(rt.alloc());
@@ -39,11 +47,15 @@ fn run(rt: &(impl Print + Eprint + Clock + Env + AllocGlobal)) -> Result<(), Sto
     match (command.as_str(), numbers.as_slice()) {
         ("formats", [rows]) => formats::measure(rt, *rows),
         ("scripts", [members]) => scripts::measure(rt, *members),
+        ("files", [items]) => files::measure(rt, *items),
         ("operators", [joined, others]) => operators::measure(rt, *joined, *others),
+        ("writes", [rows]) => writes::measure(rt, *rows),
         ("all", []) => {
             formats::measure(rt, FEW)?;
             scripts::measure(rt, FEW)?;
-            operators::measure(rt, FEW, FEW)
+            operators::measure(rt, FEW, FEW)?;
+            writes::measure(rt, FEW)?;
+            files::measure(rt, FEW)
         }
         _ => Err(Stop::Usage),
     }

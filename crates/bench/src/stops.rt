@@ -1,5 +1,6 @@
 use lake_values::{DecodeFault, NoMemory, TextFault};
 use op_rows::OpFault;
+use op_write::WriteFault;
 use sql_parser::ParseFault;
 use std::alloc::{AllocError, AllocFailed};
 use std::io;
@@ -9,7 +10,7 @@ use thiserror::Error;
 /// Why a measurement stopped.
 #[derive(Debug, Drop, Error)]
 pub enum Stop {
-    #[error("say formats N, scripts N, operators J N or all")]
+    #[error("say formats N, scripts N, operators J N, writes N, files N or all")]
     Usage,
     #[error("not a number from 0 to 4294967295: {0}")]
     Number(#[from] ParseIntError),
@@ -21,6 +22,8 @@ pub enum Stop {
     Script(ParseFault),
     #[error("an operator refused: {0:?}")]
     Operator(OpFault),
+    #[error("a file isn't staged: {0:?}")]
+    Write(WriteFault),
     #[error("input or output failed: {0}")]
     Io(#[from] io::Error),
 }
@@ -65,5 +68,11 @@ impl From<ParseFault> for Stop {
 impl From<OpFault> for Stop {
     fn from(fault: OpFault) -> Stop {
         Stop::Operator(fault)
+    }
+}
+
+impl From<WriteFault> for Stop {
+    fn from(fault: WriteFault) -> Stop {
+        Stop::Write(fault)
     }
 }

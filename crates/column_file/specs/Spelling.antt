@@ -7,6 +7,7 @@ use Rattle.lake_values.specs.declared.schemas.ColType.TheVariants as kinds
 use Rattle.lake_values.specs.declared.values.Value.{Value}
 use Rattle.lake_values.specs.declared.values.Value.TheVariants.{Null, Int, Text}
 use Rattle.lake_values.specs.Order.{number_of, bytes_of}
+use Rattle.lake_values.specs.Schemas.{TableColumns}
 use Rattle.lake_values.specs.Spelling.{u32_spelling, u64_spelling, int_spelling, IsU64, IsText}
 use Rattle.column_file.specs.declared.decode.Decoded.{Decoded}
 
@@ -63,6 +64,14 @@ column_spelling c = (kind_byte c.0 ∷ []) ++ flags_spelling (map is_null c.1) +
 -- the magic, the numbers of columns and rows, and the columns
 abbrev pub file_spelling : Decoded → List ℕ
 file_spelling file = codes "LCF1" ++ u32_spelling (length file.kinds) ++ u64_spelling (length file.rows) ++ flat_map column_spelling (columns_of file)
+
+-- the kinds of a table's columns
+abbrev pub kinds_of : TableColumns → List ColType
+kinds_of schema = map (λ c. c.kind) schema.columns
+
+-- the spelling of rows as a file with these columns
+abbrev pub spelling_of : TableColumns → List (List Value) → List ℕ
+spelling_of schema rows = file_spelling (record { kinds = kinds_of schema; rows = rows })
 
 -- NULL, or a value of the kind
 abbrev pub HasKind : ColType → Value → Type 0

@@ -11,4 +11,4 @@ mod transpose;
 mod write;
 
 pub use decode::{Decoded, Kinds, decode_file};
-pub use write::{encode, one_file_spelling};
+pub use write::{encode, encode_rows, one_file_spelling};

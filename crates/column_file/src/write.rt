@@ -3,7 +3,7 @@ ghost use Rattle.std.specs.List.{flat_map};
 ghost use Rattle.lake_values.specs.declared.values.Value.TheVariants.{Null as NullValue};
 ghost use Rattle.lake_values.specs.Order.{number_of as number_in, bytes_of};
 ghost use Rattle.lake_values.specs.Spelling.{u64_spelling, NoneBegins};
-ghost use Rattle.column_file.specs.Spelling.{column, columns_from, is_null, flag_byte, kind_byte as byte_of_kind, flags_spelling, number_spelling, ends_from, values_spelling, column_spelling, file_spelling, FitsKinds, IsFile};
+ghost use Rattle.column_file.specs.Spelling.{column, columns_from, is_null, flag_byte, kind_byte as byte_of_kind, flags_spelling, number_spelling, ends_from, values_spelling, column_spelling, file_spelling, kinds_of, spelling_of, FitsKinds, IsFile};
 
 use lake_values::{ColType, Column, NoMemory, Row, Rows, Schema, Value, write_u32, write_u64};
 use std::alloc::Global;
@@ -11,11 +11,18 @@ use std::alloc::Global;
 /// The one spelling of the rows as a file with the columns of the schema. Each row has a value for each column,
 /// NULL or of its kind.
 pub fn encode(alloc: Global, schema: &Schema, rows: &Rows) -> Result<Vec<u8>, NoMemory>
-    requires { All (FitsKinds (map (λ c. c.kind) schema.now.columns)) rows.now }
-    ensures { IfOk result (λ bytes. bytes.items ≡ file_spelling (record { kinds = map (λ c. c.kind) schema.now.columns; rows = rows.now })) }
+    requires { All (FitsKinds (kinds_of schema.now)) rows.now }
+    ensures { IfOk result (λ bytes. bytes.items ≡ spelling_of schema.now rows.now) }
+{
+    encode_rows(alloc, schema, rows.rows())
+}
+
+/// The same of rows that are lent.
+pub fn encode_rows(alloc: Global, schema: &Schema, rows: &[Row]) -> Result<Vec<u8>, NoMemory>
+    requires { All (FitsKinds (kinds_of schema.now)) rows.now }
+    ensures { IfOk result (λ bytes. bytes.items ≡ spelling_of schema.now rows.now) }
 {
     let columns = schema.columns();
-    let rows = rows.rows();
     let mut out = Vec::with_capacity(alloc, size_of_file(columns, rows))?;
     out.extend_from_slice(b"LCF1")?;
     write_u32(columns.len() as u32, &mut out)?;

@@ -44,7 +44,8 @@ where
     Ok(())
 }
 
-/// Leaves off the last bytes: the last field that is begun is short. Each field begins at one of these places.
+/// Leaves off the last bytes: the last field that is begun is short. Each field begins at one of
+/// these places.
 pub fn each_prefix<D>(rt: &(impl Abort + AllocGlobal), bytes: &[u8], fields: &[u64], decode: D)
 where
     D: Fn(Global, &[u8]) -> Verdict,

@@ -1,4 +1,5 @@
-//! Values, and the bytes that they, data files, vectors and manifests are written as, and packets and cells of rows.
+//! Values, and the bytes that they, data files, vectors, manifests and checkpoints are written as,
+//! what manifests make of a table's files, and packets and cells of rows.
 //! There are tests and nothing else.
 #![tactic(auto)]
 
@@ -14,6 +15,8 @@ mod manifest_tests;
 mod packet_tests;
 #[cfg(test)]
 mod rows;
+#[cfg(test)]
+mod snapshot_tests;
 #[cfg(test)]
 mod spelling_tests;
 #[cfg(test)]

@@ -15,7 +15,8 @@ const BYTES: [u8; 51] = [
     0, 0, 0, 1, 0, 0, 0, 1, 0, 0, 0, 5, 0, 0, 0, 1, 0, 0, 0, 0, 0, 0, 0, 1,
 ];
 
-// The block that removes this file, and the one that gives it the vector v-1-1-5-1 with 7 positions.
+// The block that removes this file, and the one that gives it the vector v-1-1-5-1 with 7
+// positions.
 const REMOVAL: [u8; 35] = [
     0x4c, 0x4d, 0x42, 0x31, 0, 0, 0, 1, 2, 0, 0, 0, 1, 0x74, 1, 0, 0, 0, 0, 0, 0, 0, 1, 0, 0, 0, 1,
     0, 0, 0, 5, 0, 0, 0, 1,

@@ -15,7 +15,7 @@ use Rattle.lake_model.specs.Allowed.{MayConflict}
 use Rattle.lake_model.specs.Conflicts.{first_conflict, wrote_one}
 use Rattle.sql_model.specs.Listing.{numbers, SameBag, weight}
 use Rattle.lake_model.specs.State.{State, Transaction, after_commit, ended, last, newest, transaction, version_at, with_version}
-use Rattle.sql_model.specs.Versions.{Tables, Version}
+use Rattle.sql_model.specs.Versions.{Tables, Version, wrote}
 use Rattle.lake_values.specs.Texts.{same_text}
 use Rattle.sql_model.proofs.Bags.{same_filter, same_map}
 use Rattle.sql_model.proofs.Lists.{all_append, all_filter, all_weaker}
@@ -23,9 +23,9 @@ use Rattle.lake_values.proofs.SameTexts.{same_text_sym}
 use Rattle.table_history.proofs.StrikeLemmas.{struck_all}
 use Rattle.table_history.specs.Histories.{GrowsBy, History, change_from, has_spare_rows, last_of, newest_of, rows_for}
 use Rattle.table_history.specs.Strikes.{same_marked, struck, times}
-use Rattle.write_set_catalog.specs.Catalogs.{Catalogued, IsBehind}
-use Rattle.write_set_catalog.specs.Rows.{HasNoConflict, IsFirstConflict, is_conflict, units_of_row, writes_one}
-use Rattle.write_set_catalog.specs.declared.rows.CatRow.{CatRow}
+use Rattle.lake_core.specs.Catalogs.{Catalogued, IsBehind}
+use Rattle.lake_core.specs.Rows.{HasNoConflict, IsFirstConflict, is_conflict, units_of_row, writes_one}
+use Rattle.lake_core.specs.declared.rows.CatRow.{CatRow}
 use Rattle.lake_core.specs.declared.transactions.KeptTransaction.{KeptTransaction}
 use Rattle.lake_core.specs.declared.commits.Ready.{Ready}
 use Rattle.lake_core.specs.Facts as facts
@@ -123,7 +123,8 @@ writes_is removed removed' room made same r =
     share_sym (units_of_row r) (units_of_marks room.marks) ∙ made.marks (units_of_row r) ∙ units_bag removed removed' (units_of_row r) same ∙ share_sym (units_of_rows removed') (units_of_row r)
 
 wrote_is : (st : State) (rows : List CatRow) (units : List ConflictUnit) (n : ℕ) → IsWritten st rows → wrote_one st units n ≡ list_any (λ r. nat_eq r.seq n && share_unit (units_of_row r) units) rows
-wrote_is st rows units n written = share_sym units (version_at st n).wrote ∙ sym (written.units n units)
+wrote_is st rows units n written =
+    share_sym units (wrote (version_at st n)) ∙ sym (written.units n units)
 
 -- numbers that are looked through
 
@@ -248,7 +249,9 @@ stamped_within : (seq n : ℕ) (rows : List CatRow) → seq + 1 ≤ n → AllByR
 stamped_within seq n [] le = tt
 stamped_within seq n (r ∷ rs) le = (le, stamped_within seq n rs le)
 
-written_more : (st st' : State) (v : Version) (old new : List CatRow) (seq : ℕ) → st'.versions ≡ st.versions ++ v ∷ [] → seq ≡ length st.versions → IsWritten st old → ((us : List ConflictUnit) → rows_share new us ≡ share_unit v.wrote us) →
+written_more : (st st' : State) (v : Version) (old new : List CatRow) (seq : ℕ)
+    → st'.versions ≡ st.versions ++ v ∷ [] → seq ≡ length st.versions → IsWritten st old
+    → ((us : List ConflictUnit) → rows_share new us ≡ share_unit (wrote v) us) →
     IsWritten st' (old ++ map (stamped seq) new)
 written_more st st' v old new seq more is written says =
     let longer = ap (λ (vs : List Version). length vs) more ∙ length-append st.versions (v ∷ []) in
@@ -256,17 +259,26 @@ written_more st st' v old new seq more is written says =
       units = λ n us.
           let here = λ (r : CatRow). nat_eq r.seq n && share_unit (units_of_row r) us in
           let parts : list_any here (old ++ map (stamped seq) new) ≡ (list_any here old || (nat_eq seq n && rows_share new us)) = any_append here old (map (stamped seq) new) ∙ ap (λ (b : Bool). list_any here old || b) (any_stamped seq n us new) in
-          elim (nat_eq n (length st.versions)) as (λ b. nat_eq n (length st.versions) ≡ b → list_any here (old ++ map (stamped seq) new) ≡ share_unit (version_at st' n).wrote us) [
+          elim (nat_eq n (length st.versions)) as
+          (λ b. nat_eq n (length st.versions) ≡ b
+          → list_any here (old ++ map (stamped seq) new)
+          ≡ share_unit (wrote (version_at st' n)) us) [
             | true ↦ λ e.
                 let at : n ≡ length st.versions = same_number n (length st.versions) e in
                 let none : list_any here old ≡ false = ap (λ (k : ℕ). list_any (λ (r : CatRow). nat_eq r.seq k && share_unit (units_of_row r) us) old) at ∙ not_yet old us (length st.versions) written.within in
                 let mine : nat_eq seq n ≡ true = ap (λ (k : ℕ). nat_eq k n) (is ∙ sym at) ∙ number_self n in
                 let both : (list_any here old || (nat_eq seq n && rows_share new us)) ≡ rows_share new us = λ i. none i || (mine i && rows_share new us) in
-                parts ∙ both ∙ says us ∙ sym (ap (λ (w : Version). share_unit w.wrote us) (version_more st st' v n more ∙ ap (λ (b : Bool). if b then v else version_at st n) e))
+                parts ∙ both ∙ says us
+                ∙ sym (ap (λ (w : Version). share_unit (wrote w) us)
+                (version_more st st' v n more
+                ∙ ap (λ (b : Bool). if b then v else version_at st n) e))
             | false ↦ λ e.
                 let other : nat_eq seq n ≡ false = ap (λ (k : ℕ). nat_eq k n) is ∙ number_sym (length st.versions) n ∙ e in
                 let first : (list_any here old || (nat_eq seq n && rows_share new us)) ≡ list_any here old = ap (λ (b : Bool). list_any here old || (b && rows_share new us)) other ∙ or_nothing (list_any here old) in
-                parts ∙ first ∙ written.units n us ∙ sym (ap (λ (w : Version). share_unit w.wrote us) (version_more st st' v n more ∙ ap (λ (b : Bool). if b then v else version_at st n) e))
+                parts ∙ first ∙ written.units n us
+                ∙ sym (ap (λ (w : Version). share_unit (wrote w) us)
+                (version_more st st' v n more
+                ∙ ap (λ (b : Bool). if b then v else version_at st n) e))
           ] refl;
       within = all_append (λ r. r.seq + 1 ≤ length st'.versions) old (map (stamped seq) new) (further old (length st.versions) (length st'.versions) (omega (arith, longer)) written.within) (stamped_within seq (length st'.versions) new (omega (arith, is, longer)));
     }

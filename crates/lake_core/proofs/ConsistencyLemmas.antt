@@ -17,15 +17,15 @@ use Rattle.lake_model.specs.Allowed.{IsAllowed, IsLegal}
 use Rattle.sql_model.specs.Changes.{no_change}
 use Rattle.lake_model.specs.State.{State, Noted, Transaction, after, after_began, after_created, after_stop, is_inside, ended, last, newest, opened_by, opening, state, transaction, turned, version_at}
 use Rattle.sql_model.specs.Units.{ConflictUnit, share_unit}
-use Rattle.sql_model.specs.Versions.{Table, Tables, Version, empty_version, has_table}
+use Rattle.sql_model.specs.Versions.{Table, Tables, Version, empty_version, has_table, wrote}
 use Rattle.lake_values.specs.Texts.{same_text}
 use Rattle.sql_model.proofs.Lists.{all_filter}
 use Rattle.lake_model.proofs.Steps.{legal_append, state_append}
 use Rattle.table_history.proofs.PlaceLemmas.{room_weaker}
 use Rattle.table_history.specs.Histories.{GrowsBy, History, KeepsRoom, has_spare_rows, last_of, newest_of, no_tables, rows_for, tables_in}
-use Rattle.write_set_catalog.specs.Catalogs.{Catalogued}
-use Rattle.write_set_catalog.specs.Rows.{units_of_row}
-use Rattle.write_set_catalog.specs.declared.rows.CatRow.{CatRow}
+use Rattle.lake_core.specs.Catalogs.{Catalogued}
+use Rattle.lake_core.specs.Rows.{units_of_row}
+use Rattle.lake_core.specs.declared.rows.CatRow.{CatRow}
 use Rattle.lake_core.specs.declared.transactions.KeptTransaction.{KeptTransaction}
 use Rattle.lake_core.specs.declared.who.Who.{Who}
 use Rattle.lake_core.specs.Facts as facts
@@ -39,13 +39,15 @@ pub state_next : (entries : List Noted) (e : Noted) → state (entries ++ e ∷ 
 state_next entries e = state_append opening entries (e ∷ [])
 
 -- an allowed entry leads consistent, where what is kept stands for the state behind it
-pub consistent_more : (entries : List Noted) (e : Noted) (h : History) (running : List KeptTransaction) (catalog : Catalogued) (spare number : ℕ) → IsLegal entries → IsAllowed (state entries) e →
+pub consistent_more : (entries : List Noted) (e : Noted) (h : History)
+    (running : List KeptTransaction) (catalog : Catalogued) (spare number : ℕ)
+    → IsLegal true entries → IsAllowed true (state entries) e →
     StandsFor (after (state entries) e) (length entries + 1) h running catalog spare number → IsConsistent (entries ++ e ∷ []) h running catalog spare number
 consistent_more entries e h running catalog spare number legal allowed stands =
     let P : State → Type 0 = λ st. StandsFor st (length entries + 1) h running catalog spare number in
     let Q : ℕ → Type 0 = λ n. StandsFor (state (entries ++ e ∷ [])) n h running catalog spare number in
     record {
-      legal = legal_append opening entries (e ∷ []) legal (allowed, tt);
+      legal = legal_append true opening entries (e ∷ []) legal (allowed, tt);
       stands = subst Q (sym (length-append entries (e ∷ []))) (subst P (sym (state_next entries e)) stands);
     }
 
@@ -278,7 +280,8 @@ consistent_new h catalog spare running empty_history no_rows none =
     first zero le less = refl
     first (suc n) le less = absurd (omega arith)
 
-    nothing : (n : ℕ) (us : List ConflictUnit) → false ≡ share_unit (version_at opening n).wrote us
+    nothing : (n : ℕ) (us : List ConflictUnit)
+        → false ≡ share_unit (wrote (version_at opening n)) us
     nothing zero us = refl
     nothing (suc n) us = refl
 
@@ -374,24 +377,33 @@ pub further : (rows : List CatRow) (m n : ℕ) → m ≤ n → AllByRecursion (�
 further [] m n le all = tt
 further (r ∷ rs) m n le all = (omega (arith, le, all.0), further rs m n le all.1)
 
-written_nothing : (st st' : State) (v : Version) (rows : List CatRow) → st'.versions ≡ st.versions ++ v ∷ [] → v.wrote ≡ [] → IsWritten st rows → IsWritten st' rows
+written_nothing : (st st' : State) (v : Version) (rows : List CatRow)
+    → st'.versions ≡ st.versions ++ v ∷ [] → wrote v ≡ [] → IsWritten st rows → IsWritten st' rows
 written_nothing st st' v rows more nothing written =
     let longer = ap (λ (vs : List Version). length vs) more ∙ length-append st.versions (v ∷ []) in
     record {
-      units = λ n us. elim (nat_eq n (length st.versions)) as (λ b. nat_eq n (length st.versions) ≡ b → list_any (λ r. nat_eq r.seq n && share_unit (units_of_row r) us) rows ≡ share_unit (version_at st' n).wrote us) [
-        | true ↦ λ e.
-            let is : n ≡ length st.versions = same_number n (length st.versions) e in
-            let none : list_any (λ r. nat_eq r.seq n && share_unit (units_of_row r) us) rows ≡ false = ap (λ (k : ℕ). list_any (λ r. nat_eq r.seq k && share_unit (units_of_row r) us) rows) is ∙ not_yet rows us (length st.versions) written.within in
-            none ∙ sym (ap (λ (w : Version). share_unit w.wrote us) (version_more st st' v n more ∙ ap (λ (b : Bool). if b then v else version_at st n) e) ∙ ap (λ (ws : List ConflictUnit). share_unit ws us) nothing)
-        | false ↦ λ e. written.units n us ∙ sym (ap (λ (w : Version). share_unit w.wrote us) (version_more st st' v n more ∙ ap (λ (b : Bool). if b then v else version_at st n) e))
-      ] refl;
+      units = λ n us. elim (nat_eq n (length st.versions)) as
+          (λ b. nat_eq n (length st.versions) ≡ b
+          → list_any (λ r. nat_eq r.seq n && share_unit (units_of_row r) us) rows
+          ≡ share_unit (wrote (version_at st' n)) us) [
+            | true ↦ λ e.
+                let is : n ≡ length st.versions = same_number n (length st.versions) e in
+                let none : list_any (λ r. nat_eq r.seq n && share_unit (units_of_row r) us) rows ≡ false = ap (λ (k : ℕ). list_any (λ r. nat_eq r.seq k && share_unit (units_of_row r) us) rows) is ∙ not_yet rows us (length st.versions) written.within in
+                none ∙ sym (ap (λ (w : Version). share_unit (wrote w) us)
+                (version_more st st' v n more
+                ∙ ap (λ (b : Bool). if b then v else version_at st n) e)
+                ∙ ap (λ (ws : List ConflictUnit). share_unit ws us) nothing)
+            | false ↦ λ e. written.units n us
+                ∙ sym (ap (λ (w : Version). share_unit (wrote w) us)
+                (version_more st st' v n more ∙ ap (λ (b : Bool). if b then v else version_at st n) e))
+          ] refl;
       within = further rows (length st.versions) (length st'.versions) (omega (arith, longer)) written.within;
     }
 
 pub created_stands : (st : State) (t : Table) (count : ℕ) (h h' : History) (rs : List KeptTransaction) (catalog : Catalogued) (spare spare' number : ℕ) → StandsFor st count h rs catalog spare number → t.rows ≡ [] →
     GrowsBy h h' (newest_of h ++ t ∷ []) → ((name : List ℕ) → has_spare_rows h'.spares name (total (table_rows_for name) rs) ≡ true) → total entries_for rs ≤ spare' → StandsFor (after_created t st) (count + 1) h' rs catalog spare' number
 created_stands st t count h h' rs catalog spare spare' number stands empty grown rooms enough =
-    let v : Version = record (newest st) { tables = (newest st).tables ++ t ∷ []; wrote = [] } in
+    let v : Version = record (newest st) { tables = (newest st).tables ++ t ∷ []; struck = [] } in
     let P : Tables → Type 0 = λ ts. GrowsBy h h' (ts ++ t ∷ []) in
     let longer = length-append st.versions (v ∷ []) in
     record {

@@ -1,3 +1,4 @@
+pub mod ConflictLemmas
 pub mod OpenLemmas
 pub mod ConsistencyLemmas
 pub mod CommitLemmas

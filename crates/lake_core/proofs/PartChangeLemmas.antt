@@ -26,7 +26,7 @@ use Rattle.sql_model.proofs.MarkOrder.{marked_total}
 use Rattle.sql_model.proofs.Sorting.{Rises, ordered_rises, weight_ordered}
 use Rattle.table_history.specs.Strikes.{IsAscending}
 use Rattle.table_history.specs.Histories.{History, has_spare_rows, rows_for}
-use Rattle.write_set_catalog.specs.Catalogs.{Catalogued}
+use Rattle.lake_core.specs.Catalogs.{Catalogued}
 use Rattle.lake_core.specs.declared.part_changes.PartChange.{PartChange}
 use Rattle.lake_core.specs.declared.transactions.KeptTransaction.{KeptTransaction}
 use Rattle.lake_core.specs.declared.transactions.Room.{Room}
@@ -139,15 +139,18 @@ ran_stands st count session reply change h rs rs' catalog spare spare' number st
 -- the statement may do what it does
 
 pub ran_allowed : (session : ℕ) (reply : Reply) (change : Change) (st : State) → IsSome (transaction st session)
-    → IsStatementEffect st session (reply, change) → IsSomeAnd (transaction st session) (IsOwnChange (view st session) reply change)
+    → IsStatementEffect st session (reply, change)
+    → IsSomeAnd (transaction st session) (IsOwnChange true (view st session).tables reply change)
 ran_allowed session reply change st some effect = each (transaction st session) refl some
   where
-    each : (o : Option Transaction) → transaction st session ≡ o → IsSome o → IsSomeAnd o (IsOwnChange (view st session) reply change)
+    each : (o : Option Transaction) → transaction st session ≡ o → IsSome o
+        → IsSomeAnd o (IsOwnChange true (view st session).tables reply change)
     each None is none = absurd cc
     each (Some t) is some =
         let part : next_part st session ≡ t.parts + 1 = ap (λ (o : Option Transaction). option_map_or (λ t. t.parts + 1) o 1) is in
-        let P : ℕ → Type 0 = λ n. writing.effect_of effect.form (view st session) n ≡ Ok (reply, change) in
-        own_change effect.form (view st session) t reply change effect.reads (subst P part effect.does)
+        let seen = (view st session).tables in
+        let P : ℕ → Type 0 = λ n. writing.effect_of effect.form seen n ≡ Ok (reply, change) in
+        own_change effect.form seen t reply change effect.reads (subst P part effect.does)
 
 -- what is made for the commit of rows serves for the same rows in another order
 

@@ -9,8 +9,8 @@ use Rattle.sql_model.specs.Versions.{Tables}
 use Rattle.lake_values.specs.Texts.{same_text}
 use Rattle.lake_values.proofs.SameTexts.{same_text_is}
 use Rattle.table_history.specs.Histories.{KeepsRoom, History, has_spare_rows, rows_for}
-use Rattle.write_set_catalog.specs.Catalogs.{Catalogued}
-use Rattle.write_set_catalog.specs.declared.rows.CatRow.{CatRow}
+use Rattle.lake_core.specs.Catalogs.{Catalogued}
+use Rattle.lake_core.specs.declared.rows.CatRow.{CatRow}
 use Rattle.lake_core.specs.Consistency.{HasRooms, IsHistory, IsConsistent, chronicle_of}
 use Rattle.lake_core.specs.Rooms.{AreOpen, HaveOwnSessions, IsRoomFor, IsWritten, catalog_rows_for, rows_needed, table_rows_for, total, with_room}
 use Rattle.lake_core.specs.declared.transactions.KeptTransaction.{KeptTransaction}

@@ -9,8 +9,8 @@ use Rattle.sql_model.specs.Units.{ConflictUnit, whole_table, same_unit, share_un
 use Rattle.lake_values.specs.Texts.{same_text}
 use Rattle.lake_values.proofs.SameTexts.{same_text_self}
 use Rattle.table_history.specs.Histories.{NamesTables}
-use Rattle.write_set_catalog.specs.declared.rows.CatRow.{CatRow}
-use Rattle.write_set_catalog.specs.Rows.{units_of_row}
+use Rattle.lake_core.specs.declared.rows.CatRow.{CatRow}
+use Rattle.lake_core.specs.Rows.{units_of_row}
 use Rattle.lake_core.specs.Rooms.{rows_share, units_of_rows}
 
 -- the table is one of the units

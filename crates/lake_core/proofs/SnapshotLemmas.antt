@@ -6,15 +6,15 @@ use Rattle.std.proofs.lemmas.List.{length-append}
 use Rattle.lake_model.specs.declared.entries.Fact.{Fact}
 use Rattle.lake_model.specs.declared.entries.Fact.TheVariants.{Created, Began, Ran, Committed, Conflict, Ended, RolledBack, Refused, Failed, Compacted, Checkpointed, Collected}
 use Rattle.lake_model.specs.Allowed.{IsAllowedFact, IsLegal, IsLegalFrom}
-use Rattle.lake_model.specs.State.{State, Noted, Transaction, after, after_fact, after_stop, ended, opened_by, opening, state, state_from, transaction, turned, version_at, view, with_version}
+use Rattle.lake_model.specs.State.{State, Noted, Transaction, after, after_fact, after_stop, ended, opened_by, opening, state, state_from, transaction, turned, version_at, view, view_of, with_version}
 use Rattle.sql_model.specs.declared.changes.Change.{Change}
 use Rattle.sql_model.specs.Changes.{applied}
 use Rattle.sql_model.specs.Scopes.{TableSchemas}
-use Rattle.sql_model.specs.Versions.{Tables, Version}
+use Rattle.sql_model.specs.Versions.{Tables, Version, empty_version}
 use Rattle.sql_model.specs.Writing.{schemas_of}
 use Rattle.sql_model.proofs.Lists.{all_filter, all_weaker}
 use Rattle.table_history.specs.Histories.{History, IsIn, change_from, tables_in}
-use Rattle.write_set_catalog.specs.Catalogs.{Catalogued}
+use Rattle.lake_core.specs.Catalogs.{Catalogued}
 use Rattle.lake_core.specs.declared.transactions.KeptTransaction.{KeptTransaction}
 use Rattle.lake_core.specs.Consistency.{IsConsistent}
 use Rattle.lake_core.specs.Rooms.{OpenAt}
@@ -62,7 +62,8 @@ stop_sees session ends st sees =
     with_opened session st (λ t. if t.explicit && not ends then turned session (record t { parts = t.parts + 1 }) st else ended session st) sees
     (λ t within. chosen_sees (t.explicit && not ends) (turned session (record t { parts = t.parts + 1 }) st) (ended session st) (turned_sees session (record t { parts = t.parts + 1 }) st sees within) (ended_sees session st sees))
 
-step_sees : (st : State) (session : ℕ) (ends : Bool) (f : Fact) → IsAllowedFact st session f → SeesVersions st → SeesVersions (after_fact session ends f st)
+step_sees : (st : State) (session : ℕ) (ends : Bool) (f : Fact) → IsAllowedFact true st session f
+    → SeesVersions st → SeesVersions (after_fact session ends f st)
 step_sees st session ends (Created table schema seq) allowed sees = version_sees _ [] [] st sees
 step_sees st session ends (Began explicit txn snapshot) allowed sees =
     let within : snapshot + 1 ≤ length st.versions = omega (arith, allowed.2, sees.some) in
@@ -75,15 +76,18 @@ step_sees st session ends RolledBack allowed sees = ended_sees session st sees
 step_sees st session ends (Refused cause) allowed sees = stop_sees session false st sees
 step_sees st session ends (Failed cause) allowed sees = stop_sees session ends st sees
 step_sees st session ends (Compacted table cells marks seq added dropped) allowed sees = ended_sees session _ (version_sees _ dropped added st sees)
-step_sees st session ends (Checkpointed table at name) allowed sees = ended_sees session st sees
+step_sees st session ends (Checkpointed table at name) allowed sees =
+    record { some = sees.some; snapshots = all_filter _ _ st.running sees.snapshots }
 step_sees st session ends (Collected names floor) allowed sees = record { some = sees.some; snapshots = sees.snapshots }
 
-legal_sees : (st : State) (es : List Noted) → IsLegalFrom st es → SeesVersions st → SeesVersions (state_from st es)
+legal_sees : (st : State) (es : List Noted) → IsLegalFrom true st es → SeesVersions st
+    → SeesVersions (state_from st es)
 legal_sees st [] legal sees = sees
 legal_sees st (e ∷ es) legal sees = legal_sees (after st e) es legal.1 (step_sees st e.entry.session e.ends e.entry.fact legal.0 sees)
 
 -- the session's transaction sees a version that there is
-pub snapshot_there : (session : ℕ) (es : List Noted) (t : Transaction) → IsLegal es → transaction (state es) session ≡ Some t → t.snapshot + 1 ≤ length (state es).versions
+pub snapshot_there : (session : ℕ) (es : List Noted) (t : Transaction) → IsLegal true es
+    → transaction (state es) session ≡ Some t → t.snapshot + 1 ≤ length (state es).versions
 snapshot_there session es t legal opened =
     let sees = legal_sees opening es legal (record { some = omega arith; snapshots = tt }) in
     opened_sees (length (state es).versions) session (state es).running t sees.snapshots opened
@@ -105,7 +109,8 @@ schemas_applied seq change (t ∷ ts) = ap (λ (ss : TableSchemas). (t.name, t.s
 
 -- what is kept of a transaction tells what it sees
 pub tables_seen : (session : ℕ) (es : List Noted) (h : History) (rs : List KeptTransaction) (catalog : Catalogued) (spare number : ℕ) (r : KeptTransaction) → OpenAt session (state es).running r → IsConsistent es h rs catalog spare number →
-    applied 0 (change_from r.removed.items r.added.items) (tables_in h r.snapshot) ≡ view (state es) session
+    applied 0 (change_from r.removed.items r.added.items) (tables_in h r.snapshot)
+    ≡ (view (state es) session).tables
 tables_seen session es h rs catalog spare number r there consistent =
     let st = state es in
     let t = there.transaction in
@@ -113,4 +118,5 @@ tables_seen session es h rs catalog spare number r there consistent =
     let version = (seen_version session es h rs catalog spare number r there consistent).1 in
     ap (λ (ts : Tables). applied 0 (change_from r.removed.items r.added.items) ts) version
     ∙ applied_same 0 r.removed.items r.added.items t.pending (version_at st t.snapshot).tables there.is.removed there.is.added
-    ∙ sym (ap (λ (o : Option Transaction). option_map_or (λ u. applied 0 u.pending (version_at st u.snapshot).tables) o []) opened)
+    ∙ (let seen = λ (o : Option Transaction). (option_map_or (view_of st) o empty_version).tables in
+    sym (ap seen opened))

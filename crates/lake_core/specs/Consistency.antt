@@ -5,7 +5,7 @@ use Rattle.lake_model.specs.declared.entries.Entry.{Entry}
 use Rattle.lake_model.specs.Allowed.{IsLegal}
 use Rattle.lake_model.specs.State.{State, Noted, state, version_at}
 use Rattle.table_history.specs.Histories.{History, has_spare_rows, tables_in}
-use Rattle.write_set_catalog.specs.Catalogs.{Catalogued}
+use Rattle.lake_core.specs.Catalogs.{Catalogued}
 use Rattle.lake_core.specs.declared.transactions.KeptTransaction.{KeptTransaction}
 use Rattle.lake_core.specs.Rooms.{AreOpen, HaveOwnSessions, RoomFits, IsWritten, catalog_rows_for, entries_for, table_rows_for, total}
 
@@ -44,5 +44,5 @@ pub record StandsFor (st : State) (count : ℕ) (h : History) (running : List Ke
 
 -- the chronicle is legal, and what is kept is what its state says
 pub record IsConsistent (entries : List Noted) (h : History) (running : List KeptTransaction) (catalog : Catalogued) (spare number : ℕ) : Type 0 where
-  pub legal : IsLegal entries
+  pub legal : IsLegal true entries
   pub stands : StandsFor (state entries) (length entries) h running catalog spare number

@@ -35,7 +35,7 @@ noted who f = record { entry = record { session = who.session; place = who.place
 -- transaction is open, and every other session keeps its room.
 pub record Adds (old new : Lake) (who : Who) (f : Fact) : Type 0 where
   pub entries : new.entries ≡ old.entries ++ noted who f ∷ []
-  pub legal : IsLegal new.entries
+  pub legal : IsLegal true new.entries
   pub kept : is_reserved new who.session ≡ (is_reserved old who.session && is_some (transaction (state_of new) who.session))
   pub others : (session : ℕ) → session ≢ who.session → is_reserved new session ≡ is_reserved old session
 
@@ -52,4 +52,4 @@ HasPart st session = next_part st session < 2 ^ 32
 pub record IsStatementEffect (st : State) (session : ℕ) (effect : Effect) : Type 0 where
   pub form : Bound
   pub reads : reads_or_changes form ≡ true
-  pub does : effect_of form (view st session) (next_part st session) ≡ Ok effect
+  pub does : effect_of form (view st session).tables (next_part st session) ≡ Ok effect

@@ -1,3 +1,5 @@
+pub mod Rows
+pub mod Catalogs
 pub mod Lakes
 pub mod Facts
 pub mod Opened

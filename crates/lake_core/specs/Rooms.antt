@@ -11,9 +11,9 @@ use Rattle.sql_model.specs.Changes.{additions_left, committed, own}
 use Rattle.sql_model.specs.Listing.{SameBag}
 use Rattle.lake_model.specs.State.{State, Transaction, opened_by, version_at}
 use Rattle.sql_model.specs.Units.{ConflictUnit, share_unit, marks_of, units_of_marks}
-use Rattle.sql_model.specs.Versions.{Table}
-use Rattle.write_set_catalog.specs.declared.rows.CatRow.{CatRow}
-use Rattle.write_set_catalog.specs.Rows.{units_of_row}
+use Rattle.sql_model.specs.Versions.{Table, wrote}
+use Rattle.lake_core.specs.declared.rows.CatRow.{CatRow}
+use Rattle.lake_core.specs.Rows.{units_of_row}
 use Rattle.table_history.specs.Histories.{NamesTables, rows_for}
 use Rattle.table_history.specs.Strikes.{IsAscending}
 use Rattle.lake_core.specs.declared.part_changes.PartChange.{PartChange}
@@ -125,7 +125,9 @@ pub record IsPended (old new : KeptTransaction) (change : Change) : Type 0 where
 
 -- what the catalogue says of the units that each commit wrote is what the versions say
 pub record IsWritten (st : State) (rows : List CatRow) : Type 0 where
-  pub units : (n : ℕ) (us : List ConflictUnit) → list_any (λ r. nat_eq r.seq n && share_unit (units_of_row r) us) rows ≡ share_unit (version_at st n).wrote us
+  pub units : (n : ℕ) (us : List ConflictUnit)
+      → list_any (λ r. nat_eq r.seq n && share_unit (units_of_row r) us) rows
+      ≡ share_unit (wrote (version_at st n)) us
   pub within : AllByRecursion (λ r. r.seq + 1 ≤ length st.versions) rows
 
 -- room is reserved for the session

@@ -5,12 +5,13 @@ ghost use Rattle.lake_model.specs.State.{State};
 ghost use Rattle.sql_model.specs.Changes as changes;
 ghost use Rattle.table_history.specs.Histories.{GrowsBy, KeepsRoom, change_from, has_spare_rows, last_of, newest_of, rows_for};
 ghost use Rattle.table_history.specs.Strikes.{IsAscending};
-ghost use Rattle.write_set_catalog.specs.Catalogs.{IsBehind};
+ghost use Rattle.lake_core.specs.Catalogs.{IsBehind};
 
+use crate::catalogs::Catalog;
+use crate::rows::CatRow;
 use crate::transactions::{KeptTransaction, Room};
 use sql_model::{Added, MarkedRow, Marks};
 use table_history::History;
-use write_set_catalog::{CatRow, Catalog};
 
 /// A transaction that was taken out to be committed, with the room that was reserved for it.
 #[derive(Debug, Drop)]

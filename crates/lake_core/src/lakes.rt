@@ -8,6 +8,7 @@ ghost use Rattle.lake_core.specs.Facts as facts;
 ghost use Rattle.lake_core.specs.Lakes.{Adds, HasPart, IsExplicit, IsStatementEffect, is_reserved, new_lake, state_of};
 ghost use Rattle.lake_core.specs.Opened.{opened};
 
+use crate::catalogs::Catalog;
 use crate::chronicles::Chronicle;
 use crate::commits::{Applied, Ready, apply, forget_unseen};
 use crate::entries::{Creation, Ran, committed, entry, parts_of};
@@ -26,7 +27,6 @@ use sql_model::{Change, Refusal, Reply};
 use std::alloc::Global;
 use std::marker::{Model, PhantomData};
 use table_history::History;
-use write_set_catalog::Catalog;
 
 /// A lake: its chronicle, its versions and its open transactions.
 ///
@@ -75,7 +75,7 @@ impl<P: Port> LakeState<P> {
     /// All entries in the order in which they took place.
     pub fn chronicle(&self) -> &Chronicle
         ensures entries { result.now.entries ≡ map (λ e. e.entry) self.now.entries }
-        ensures legal { IsLegal self.now.entries }
+        ensures legal { IsLegal true self.now.entries }
     {
         &self.chronicle
     }
@@ -100,7 +100,7 @@ impl<P: Port> LakeState<P> {
     /// What the session's transaction sees, lent.
     pub fn lend(&self, session: u32) -> Lent<'_>
         requires { IsSome (transaction (state_of self.now) session) }
-        ensures { result ≡ view (state_of self.now) session }
+        ensures { result ≡ (view (state_of self.now) session).tables }
     {
         let place = place_of(self.running.as_slice(), session).unwrap();
         Lent::of(&self.history, &self.running[place])

@@ -10,14 +10,17 @@
 //! state's. Which marks a commit puts into the catalogue is in no clause, only which tables.
 #![tactic(auto)]
 
+mod catalogs;
 mod chronicles;
 mod commits;
+mod conflicts;
 mod entries;
 mod lakes;
 mod opened;
 mod part_changes;
 mod reservations;
 mod rooms;
+mod rows;
 mod transactions;
 mod views;
 mod who;

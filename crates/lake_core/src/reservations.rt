@@ -6,6 +6,7 @@ ghost use Rattle.lake_core.specs.Rooms.{IsRoomFor, catalog_rows_for, rows_needed
 ghost use Rattle.lake_values.specs.Texts.{same_text};
 ghost use Rattle.table_history.specs.Histories.{KeepsRoom, has_spare_rows};
 
+use crate::catalogs::Catalog;
 use crate::chronicles::Chronicle;
 use crate::part_changes::PartChange;
 use crate::transactions::{KeptTransaction, Room, rows_added};
@@ -13,7 +14,6 @@ use lake_values::{NoMemory, Text};
 use sql_model::Added;
 use std::alloc::Global;
 use table_history::History;
-use write_set_catalog::Catalog;
 
 /// Makes what the commit of one of the transactions needs after a further statement of it, beside what is reserved already.
 pub fn room_for(

@@ -3,14 +3,14 @@
 ghost use Rattle.std.specs.Prelude.{◌≡◌, ◌==◌, ◌&&◌, ◌||◌, ◌∷◌, ◌++◌, [], List, IfOk, OnOk};
 ghost use Rattle.sql_model.specs.Units.{ConflictUnit, share_unit, whole_table, units_of_marks};
 ghost use Rattle.lake_values.specs.Texts.{same_text};
-ghost use Rattle.write_set_catalog.specs.Rows.{units_of_row};
+ghost use Rattle.lake_core.specs.Rows.{units_of_row};
 ghost use Rattle.lake_core.specs.Rooms.{IsRoomFor, rows_share, units_of_rows};
 
+use crate::rows::CatRow;
 use crate::transactions::Room;
 use lake_values::{Listed, NoMemory};
 use sql_model::{Mark, MarkedRow, Marks};
 use std::alloc::Global;
-use write_set_catalog::CatRow;
 
 impl Room {
     /// What the commit of a transaction needs that removed these rows and those.

@@ -9,10 +9,10 @@ ghost use Rattle.lake_model.specs.State.{State, Transaction};
 ghost use Rattle.std.specs.List.{AllByRecursion, remove};
 ghost use Rattle.table_history.specs.Strikes.{IsAscending};
 
+use crate::rows::CatRow;
 use lake_values::{NoMemory, Row, Rows, Text};
 use sql_model::{Added, Change, MarkedRow, Marks};
 use std::alloc::Global;
-use write_set_catalog::CatRow;
 
 /// What a commit needs beside memory that it has: it is made when room is reserved.
 #[derive(Debug, Drop)]

@@ -19,7 +19,7 @@ use Rattle.sql_model.specs.declared.replies.Verb.TheVariants.{Inserted, Updated,
 use Rattle.sql_model.specs.Listing.{listed, placed}
 use Rattle.lake_model.specs.Allowed.{ChangesByReply, IsOwnChange}
 use Rattle.lake_model.specs.Laws.{ChangesAreParts}
-use Rattle.lake_model.specs.State.{State, Transaction, parts_of, transaction, view}
+use Rattle.lake_model.specs.State.{Transaction, parts_of, transaction, view}
 use Rattle.sql_model.specs.BoundForms.{reads_or_changes}
 use Rattle.sql_model.specs.Changes.{no_change, is_nil, is_unchanged, addition, change_of}
 use Rattle.sql_model.specs.Query.{plain}
@@ -80,9 +80,10 @@ some_added table part (row ∷ rows) = (some_placed row_cmp row (listed rows), t
 
 -- what a statement that reads or changes rows answers and changes, its transaction may
 pub own_change : (form : Bound) (version : Tables) (t : Transaction) (said : Reply) (change : Change) → reads_or_changes form ≡ true →
-    writing.effect_of form version (t.parts + 1) ≡ Ok (said, change) → IsOwnChange version said change t
+    writing.effect_of form version (t.parts + 1) ≡ Ok (said, change)
+    → IsOwnChange true version said change t
 own_change form version t said change reads is =
-    each_effect version (t.parts + 1) (λ e. IsOwnChange version e.0 e.1 t)
+    each_effect version (t.parts + 1) (λ e. IsOwnChange true version e.0 e.1 t)
     (λ rows. record { removes = nothing_part version; adds = tt; once = tt; filled = tt; replies = refl })
     (λ table rows. record {
       removes = nothing_part version;
@@ -108,9 +109,13 @@ changed_part (reply.Wrote verb count (Some seq)) change replies changed = absurd
 changed_part (reply.Rows rows) change replies changed = let same : true ≡ false = sym (ap is_unchanged replies) ∙ changed in absurd cc
 changed_part said change replies changed = absurd replies
 
-part_of_change : (st : State) (session : ℕ) (said : Reply) (change : Change) (o : Option Transaction) → IsSomeAnd o (IsOwnChange (view st session) said change) → is_unchanged change ≡ false → parts_of said ≡ 1
-part_of_change st session said change None may changed = absurd may
-part_of_change st session said change (Some t) may changed = changed_part said change may.replies changed
+part_of_change : (told : Bool) (seen : Tables) (said : Reply) (change : Change)
+    (o : Option Transaction) → IsSomeAnd o (IsOwnChange told seen said change)
+    → is_unchanged change ≡ false → parts_of said ≡ 1
+part_of_change told seen said change None may changed = absurd may
+part_of_change told seen said change (Some t) may changed =
+    changed_part said change may.replies changed
 
 pub changes_are_parts : ChangesAreParts
-changes_are_parts st session said change may changed = part_of_change st session said change (transaction st session) may changed
+changes_are_parts st session said change may changed =
+    part_of_change true (view st session).tables said change (transaction st session) may changed

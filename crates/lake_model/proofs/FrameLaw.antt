@@ -7,10 +7,10 @@ use Rattle.sql_model.specs.declared.changes.Change.{Change}
 use Rattle.lake_model.specs.declared.entries.Fact.{Fact}
 use Rattle.lake_model.specs.declared.entries.Fact.TheVariants.{Created, Began, Ran, Committed, Conflict, Ended, RolledBack, Refused, Failed, Compacted, Checkpointed, Collected}
 use Rattle.sql_model.specs.declared.replies.Reply.{Reply}
-use Rattle.sql_model.specs.Changes.{applied, version_after}
+use Rattle.sql_model.specs.Changes.{version_after}
 use Rattle.lake_model.specs.Laws.{IsSound, ViewsStay}
-use Rattle.lake_model.specs.State.{State, Noted, Transaction, last, newest, version_at, opened_by, transaction, with_version, with_part, turned, ended, after_fact, after, state}
-use Rattle.sql_model.specs.Versions.{Tables, Version}
+use Rattle.lake_model.specs.State.{State, Noted, Transaction, last, newest, opened_by, transaction, with_version, with_part, turned, ended, view_of, after_fact, after, state}
+use Rattle.sql_model.specs.Versions.{Version, empty_version}
 use Rattle.lake_model.proofs.Growth.{after_grown, version_kept}
 use Rattle.lake_model.proofs.Sound.{snapshot_below, states_are_sound}
 
@@ -66,15 +66,17 @@ module _ (other session : ℕ) (differ : other ≢ session) where
   fact_frame ends (Checkpointed table at name) st = ended_frame st
   fact_frame ends (Collected names floor) st = refl
 
--- of the version that a transaction sees
-seen_at : State → Option Transaction → Tables
-seen_at st o = option_map_or (λ t. applied 0 t.pending (version_at st t.snapshot).tables) o []
+-- what a transaction sees, or no table without one
+seen_at : State → Option Transaction → Version
+seen_at st o = option_map_or (view_of st) o empty_version
 
 seen_kept : (st : State) (e : Noted) (session : ℕ) → IsSound st → (o : Option Transaction) → transaction st session ≡ o → seen_at (after st e) o ≡ seen_at st o
 unfolding seen_at
 seen_kept st e session sound None is = refl
 seen_kept st e session sound (Some t) is =
-    ap (λ (v : Version). applied 0 t.pending v.tables) (version_kept st (after st e) (after_grown st e) t.snapshot (snapshot_below st session t sound is))
+    ap (version_after 0 t.pending t.worn)
+    (version_kept st (after st e) (after_grown st e) t.snapshot
+    (snapshot_below st session t sound is))
 
 pub views_stay : ViewsStay
 unfolding seen_at

@@ -26,8 +26,8 @@ abbrev right_text : State → List Numbered → List ℕ
 right_text st [] = []
 right_text st (n ∷ ns) = option_map_or (text_of_reply n.place) (reply_from n.statement None (right_run st n)) [] ++ right_text (all_next n.session (right_run st n) st) ns
 
-abbrev text_from : State → List Noted → List Numbered → List ℕ
-text_from st es ns = flat_map (λ n. run_text n (run_at n.place (stated st es))) ns
+abbrev texts_from : State → List Noted → List Numbered → List ℕ
+texts_from st es ns = flat_map (λ n. run_text n (run_at n.place (stated st es))) ns
 
 abbrev Ascend : List Noted → Type 0
 Ascend [] = Unit {0}
@@ -35,10 +35,10 @@ Ascend (e ∷ es) = AllByRecursion (λ f. e.entry.place ≤ f.entry.place) es ×
 
 -- the entries follow the statements from a state on
 record FollowFrom (st : State) (ns : List Numbered) (es : List Noted) : Type 0 where
-  runs : AllByRecursion (λ n. IsRun n (run_at n.place (stated st es))) ns
+  runs : AllByRecursion (λ n. IsRun true n (run_at n.place (stated st es))) ns
   no_others : AllByRecursion (λ e. IsOneOf (places ns) e.entry.place) es
   order : Ascend es
-  legal : IsLegalFrom st es
+  legal : IsLegalFrom true st es
   sure : AllByRecursion IsSure es
 
 -- the entries at a place in front, and those at the places behind it
@@ -84,7 +84,8 @@ ascend_right : (xs ys : List Noted) → Ascend (xs ++ ys) → Ascend ys
 ascend_right [] ys order = order
 ascend_right (x ∷ xs) ys order = ascend_right xs ys order.1
 
-legal_parts : (st : State) (xs ys : List Noted) → IsLegalFrom st (xs ++ ys) → IsLegalFrom st xs × IsLegalFrom (state_from st xs) ys
+legal_parts : (st : State) (xs ys : List Noted) → IsLegalFrom true st (xs ++ ys)
+    → IsLegalFrom true st xs × IsLegalFrom true (state_from st xs) ys
 legal_parts st [] ys legal = (tt, legal)
 legal_parts st (x ∷ xs) ys legal = let both = legal_parts (after st x) xs ys legal.1 in ((legal.0, both.0), both.1)
 
@@ -110,7 +111,7 @@ module _ (n : Numbered) (ns : List Numbered) (above : AllByRecursion (λ m. n.pl
       ∙ ap (λ (ps : List (State × Noted)). ps ++ run_at place (stated (state_from st now) later))
       (run_at_others place st now (all_weaker now (λ e h. ne_eqb e.entry.place place (λ same. omega (arith, h, same, less))) own))
 
-  legal_both : IsLegalFrom st now × IsLegalFrom (state_from st now) later
+  legal_both : IsLegalFrom true st now × IsLegalFrom true (state_from st now) later
   legal_both = legal_parts st now later follow.legal
 
   sure_both : AllByRecursion IsSure now × AllByRecursion IsSure later
@@ -118,15 +119,17 @@ module _ (n : Numbered) (ns : List Numbered) (above : AllByRecursion (λ m. n.pl
 
   follow_later : FollowFrom (state_from st now) ns later
   follow_later = record {
-    runs = all_both ns (λ m less right. let R : List (State × Noted) → Type 0 = λ ps. IsRun m ps in subst R (run_later m.place less) right) above follow.runs.1;
+    runs = all_both ns (λ m less right. let R : List (State × Noted) → Type 0 =
+        λ ps. IsRun true m ps in subst R (run_later m.place less) right) above follow.runs.1;
     no_others = others;
     order = ascend_right now later follow.order;
     legal = legal_both.1;
     sure = sure_both.1;
   }
 
-  run_is : IsRun n (stated st now)
-  run_is = let R : List (State × Noted) → Type 0 = λ ps. IsRun n ps in subst R run_now follow.runs.0
+  run_is : IsRun true n (stated st now)
+  run_is = let R : List (State × Noted) → Type 0 =
+      λ ps. IsRun true n ps in subst R run_now follow.runs.0
 
   facts_are : bare_facts now ≡ right_run (bare_state st) n
   facts_are = run_right st n now legal_both.0 run_is sure_both.0
@@ -136,27 +139,33 @@ module _ (n : Numbered) (ns : List Numbered) (above : AllByRecursion (λ m. n.pl
       ap (run_text n) run_now
       ∙ ap (λ (r : Option Reply). option_map_or (text_of_reply n.place) r []) (reply_right n.statement None st now ∙ ap (reply_from n.statement None) facts_are)
 
-  text_later : (ms : List Numbered) → AllByRecursion (λ m. n.place < m.place) ms → text_from st (now ++ later) ms ≡ text_from (state_from st now) later ms
+  text_later : (ms : List Numbered) → AllByRecursion (λ m. n.place < m.place) ms
+      → texts_from st (now ++ later) ms ≡ texts_from (state_from st now) later ms
   text_later [] less = refl
   text_later (m ∷ ms) less =
-      ap (λ (ps : List (State × Noted)). run_text m ps ++ text_from st (now ++ later) ms) (run_later m.place less.0)
+      ap (λ (ps : List (State × Noted)). run_text m ps ++ texts_from st (now ++ later) ms)
+      (run_later m.place less.0)
       ∙ ap (λ (rest : List ℕ). run_text m (run_at m.place (stated (state_from st now) later)) ++ rest) (text_later ms less.1)
 
   state_later : bare_state (state_from st now) ≡ all_next n.session (right_run (bare_state st) n) (bare_state st)
   state_later = state_right st n false now run_is.answers sure_both.0 ∙ ap (λ (fs : List Fact). all_next n.session fs (bare_state st)) facts_are
 
-  text_both : text_from (state_from st now) later ns ≡ right_text (bare_state (state_from st now)) ns → text_from st (now ++ later) (n ∷ ns) ≡ right_text (bare_state st) (n ∷ ns)
+  text_both : texts_from (state_from st now) later ns ≡ right_text
+      (bare_state (state_from st now)) ns
+      → texts_from st (now ++ later) (n ∷ ns) ≡ right_text (bare_state st) (n ∷ ns)
   text_both rest =
-      ap (λ (front : List ℕ). front ++ text_from st (now ++ later) ns) text_now
+      ap (λ (front : List ℕ). front ++ texts_from st (now ++ later) ns) text_now
       ∙ ap (λ (back : List ℕ). option_map_or (text_of_reply n.place) (reply_from n.statement None (right_run (bare_state st) n)) [] ++ back)
       (text_later ns above ∙ rest ∙ ap (λ (c : State). right_text c ns) state_later)
 
-text_right : (ns : List Numbered) → HaveAscendingPlaces ns → (st : State) (es : List Noted) → FollowFrom st ns es → text_from st es ns ≡ right_text (bare_state st) ns
+text_right : (ns : List Numbered) → HaveAscendingPlaces ns → (st : State) (es : List Noted)
+    → FollowFrom st ns es → texts_from st es ns ≡ right_text (bare_state st) ns
 text_right [] ascend st es follow = refl
 text_right (n ∷ ns) ascend st es follow =
     let parts = parts_of n.place ns ascend.0 es follow.order follow.no_others in
     let whole = subst (FollowFrom st (n ∷ ns)) parts.whole follow in
-    subst (λ (fs : List Noted). text_from st fs (n ∷ ns) ≡ right_text (bare_state st) (n ∷ ns)) (sym parts.whole)
+    subst (λ (fs : List Noted). texts_from st fs (n ∷ ns) ≡ right_text (bare_state st) (n ∷ ns))
+    (sym parts.whole)
     (text_both n ns ascend.0 st parts.now parts.later parts.own parts.others whole
     (text_right ns ascend.1 (state_from st parts.now) parts.later (follow_later n ns ascend.0 st parts.now parts.later parts.own parts.others whole)))
 

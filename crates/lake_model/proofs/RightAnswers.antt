@@ -15,20 +15,20 @@ use Rattle.sql_model.specs.declared.replies.Reply.{Reply}
 use Rattle.sql_model.specs.declared.statements.Statement.{Statement}
 use Rattle.sql_model.specs.declared.statements.Statement.TheVariants.{Create, Begin, Commit, RollBack, Insert, Select, Update, Delete, Compact, Checkpoint, Collect}
 use Rattle.sql_model.specs.Changes.{is_unchanged, version_after}
-use Rattle.sql_model.specs.Units.{ConflictUnit, units_of, units_of_compaction}
+use Rattle.sql_model.specs.Units.{units_of, units_of_compaction}
 use Rattle.lake_model.specs.Compactions.{due, marks_in}
 use Rattle.lake_model.specs.Conflicts.{first_conflict}
 use Rattle.sql_model.specs.Writing.{Effect}
 use Rattle.lake_model.specs.State.{State, Transaction, last, newest, version_at, transaction, with_version, with_part, turned, ended, after_fact}
 use Rattle.lake_model.specs.Refusals.{refusal, result_of}
 use Rattle.lake_model.specs.Allowed.{IsAllowedFact, MayCommit, MayConflict, MayCompact, MayCheckpoint}
-use Rattle.lake_model.specs.Answers.{IsRight, IsCreateOf, IsConflictOf, IsEndOf, IsCollectionOf, commits, floor_after, compaction_units}
+use Rattle.lake_model.specs.Answers.{IsRight, IsCreateOf, IsConflictOf, IsEndOf, IsCompactionOf, IsCollectionOf, commits, floor_after}
 use Rattle.sql_model.specs.Creating.{schema_of}
 use Rattle.sql_model.specs.StatementKinds.{reads_rows, runs_alone}
 use Rattle.lake_model.specs.Following.{is_failed}
 use Rattle.lake_model.specs.Text.{reply_after}
 
--- facts and states without the names of blobs
+-- facts and states without the names of blobs, and so without checkpoints
 
 abbrev pub no_name : Name
 no_name = record { kind = File; txn = 0; part = 0; task = 0; attempt = 0 }
@@ -41,7 +41,7 @@ bare (Collected names floor) = Collected [] floor
 bare f = f
 
 abbrev pub bare_state : State → State
-bare_state st = record st { names = [] }
+bare_state st = record st { names = []; checks = [] }
 
 pub reply_bare : (x : Statement) (before : Option Reply) (f : Fact) → reply_after x before f ≡ reply_after x before (bare f)
 reply_bare x before (Committed seq added dropped) = refl
@@ -112,7 +112,8 @@ abbrev pub compaction_of : State → List ℕ → Transaction → List ℕ → F
 compaction_of st table t [] = Ended
 compaction_of st table t (c ∷ cs) =
     let marks = marks_in table (c ∷ cs) (version_at st t.snapshot).tables in
-    compacted_by (first_conflict st t.snapshot (units_of_compaction table marks)) (Compacted table (c ∷ cs) marks (last st + 1) [] [])
+    let done = Compacted table (c ∷ cs) marks (last st + 1) [] [] in
+    compacted_by (first_conflict st t.snapshot (units_of_compaction table)) done
 
 abbrev pub compaction_at : State → List ℕ → Option Transaction → Fact
 compaction_at st table o = option_map_or (λ t. compaction_of st table t (due table (version_at st t.snapshot))) o Ended
@@ -155,9 +156,11 @@ pub end_ended : (st : State) (o : Option Transaction) → IsSomeAnd o (λ t. is_
 end_ended st None may = absurd may
 end_ended st (Some t) may = rw may refl
 
-pub end_committed : (st : State) (seq : ℕ) (added dropped : List Name) (o : Option Transaction) → IsSomeAnd o (MayCommit st seq added dropped) → Committed seq [] [] ≡ end_at st o
+pub end_committed : (st : State) (seq : ℕ) (added dropped : List Name) (o : Option Transaction)
+    → IsSomeAnd o (MayCommit true st seq added dropped) → Committed seq [] [] ≡ end_at st o
 end_committed st seq added dropped None may = absurd may
-end_committed st seq added dropped (Some t) may = rw (may.0, may.1) (ap (λ (n : ℕ). Committed n [] []) may.2)
+end_committed st seq added dropped (Some t) may =
+    rw (may.changed, may.free) (ap (λ (n : ℕ). Committed n [] []) may.next)
 
 changed_conflict : (st : State) (seq : ℕ) (t : Transaction) (unchanged : Bool) → MatchBool unchanged ((t.snapshot < seq) × (seq ≤ last st)) (first_conflict st t.snapshot (units_of t.pending) ≡ Some seq) → unchanged ≡ false
     → first_conflict st t.snapshot (units_of t.pending) ≡ Some seq
@@ -174,33 +177,43 @@ abbrev due_at : State → List ℕ → Option Transaction → List ℕ
 due_at st table o = option_map_or (λ t. due table (version_at st t.snapshot)) o []
 
 abbrev conflict_at : State → List ℕ → Option Transaction → Option ℕ
-conflict_at st table o = option_map_or (λ t. first_conflict st t.snapshot (compaction_units st table t.snapshot)) o None
+conflict_at st table o =
+    option_map_or (λ t. first_conflict st t.snapshot (units_of_compaction table)) o None
 
-compaction_ended : (st : State) (table : List ℕ) (o : Option Transaction) → due_at st table o ≡ [] → Ended ≡ compaction_at st table o
+compaction_ended : (st : State) (table : List ℕ) (o : Option Transaction) → due_at st table o ≡ []
+    → Ended ≡ compaction_at st table o
 compaction_ended st table None none = refl
 compaction_ended st table (Some t) none = rw none refl
 
-abbrev units_in : State → List ℕ → Transaction → List ℕ → List ConflictUnit
-units_in st table t cells = units_of_compaction table (marks_in table cells (version_at st t.snapshot).tables)
-
-some_due : (st : State) (table : List ℕ) (t : Transaction) (seq : ℕ) (cells : List ℕ) → cells ≢ [] → first_conflict st t.snapshot (units_in st table t cells) ≡ Some seq → Conflict seq ≡ compaction_of st table t cells
+some_due : (st : State) (table : List ℕ) (t : Transaction) (seq : ℕ) (cells : List ℕ) → cells ≢ []
+    → first_conflict st t.snapshot (units_of_compaction table) ≡ Some seq
+    → Conflict seq ≡ compaction_of st table t cells
 some_due st table t seq [] some first = absurd (some refl)
 some_due st table t seq (c ∷ cs) some first = rw first refl
 
-compaction_conflicts : (st : State) (table : List ℕ) (seq : ℕ) (o : Option Transaction) → due_at st table o ≢ [] → conflict_at st table o ≡ Some seq → Conflict seq ≡ compaction_at st table o
+compaction_conflicts : (st : State) (table : List ℕ) (seq : ℕ) (o : Option Transaction)
+    → due_at st table o ≢ [] → conflict_at st table o ≡ Some seq
+    → Conflict seq ≡ compaction_at st table o
 compaction_conflicts st table seq None some first = absurd cc
-compaction_conflicts st table seq (Some t) some first = some_due st table t seq (due table (version_at st t.snapshot)) some first
+compaction_conflicts st table seq (Some t) some first =
+    some_due st table t seq (due table (version_at st t.snapshot)) some first
 
-all_due : (st : State) (table : List ℕ) (t : Transaction) (cells : List ℕ) → cells ≢ [] → first_conflict st t.snapshot (units_in st table t cells) ≡ None
-    → Compacted table cells (marks_in table cells (version_at st t.snapshot).tables) (last st + 1) [] [] ≡ compaction_of st table t cells
-all_due st table t [] some free = absurd (some refl)
-all_due st table t (c ∷ cs) some free = rw free refl
+free_compaction : (st : State) (table : List ℕ) (t : Transaction) (cells : List ℕ) → cells ≢ []
+    → first_conflict st t.snapshot (units_of_compaction table) ≡ None
+    → let marks = marks_in table cells (version_at st t.snapshot).tables in
+    Compacted table cells marks (last st + 1) [] [] ≡ compaction_of st table t cells
+free_compaction st table t [] some free = absurd (some refl)
+free_compaction st table t (c ∷ cs) some free = rw free refl
 
-compaction_done : (st : State) (table : List ℕ) (cells : List ℕ) (marks : List Mark) (seq : ℕ) (added dropped : List Name) (o : Option Transaction) → IsSomeAnd o (MayCompact st table cells marks seq added dropped)
+compaction_done : (st : State) (table cells : List ℕ) (marks : List Mark) (seq : ℕ)
+    (added dropped : List Name) (o : Option Transaction) → conflict_at st table o ≡ None
+    → IsSomeAnd o (MayCompact true st table cells marks seq added dropped)
     → Compacted table cells marks seq [] [] ≡ compaction_at st table o
-compaction_done st table cells marks seq added dropped None may = absurd may
-compaction_done st table cells marks seq added dropped (Some t) may =
-    (λ i. Compacted table cells (may.3 i) (may.5 i) [] []) ∙ all_due st table t cells may.2 (sym (ap (λ (ms : List Mark). first_conflict st t.snapshot (units_of_compaction table ms)) may.3) ∙ may.4) ∙ ap (compaction_of st table t) may.1
+compaction_done st table cells marks seq added dropped None free may = absurd may
+compaction_done st table cells marks seq added dropped (Some t) free may =
+    (λ i. Compacted table cells (may.all_marks i) (may.next i) [] [])
+    ∙ free_compaction st table t cells may.some free
+    ∙ ap (compaction_of st table t) may.all_due
 
 -- which entry answers a statement follows from its state
 
@@ -240,11 +253,14 @@ module _ (st : State) (session : ℕ) where
   ran_answer (Delete table filter) reply change reads is = rw is refl
   ran_answer x reply change reads is = absurd cc
 
-  committed_answer : (x : Statement) (seq : ℕ) (added dropped : List Name) → commits false x ≡ true → IsSomeAnd (transaction st session) (MayCommit st seq added dropped) → Committed seq [] [] ≡ answer st session x
+  committed_answer : (x : Statement) (seq : ℕ) (added dropped : List Name) → commits false x ≡ true
+      → IsSomeAnd (transaction st session) (MayCommit true st seq added dropped)
+      → Committed seq [] [] ≡ answer st session x
   committed_answer Commit seq added dropped right may = end_committed st seq added dropped (transaction st session) may ∙ open_unrefused (transaction st session) _ _ may
   committed_answer x seq added dropped right may = absurd cc
 
-  conflict_answer : (x : Statement) (seq : ℕ) → IsConflictOf st session false x seq → IsSomeAnd (transaction st session) (MayConflict st seq) → Conflict seq ≡ answer st session x
+  conflict_answer : (x : Statement) (seq : ℕ) → IsConflictOf true st session false x seq
+      → IsSomeAnd (transaction st session) (MayConflict st seq) → Conflict seq ≡ answer st session x
   conflict_answer Commit seq right may = end_conflict st seq (transaction st session) may right ∙ open_unrefused (transaction st session) _ _ may
   conflict_answer (Compact table) seq right may = free_answer (Compact table) (Conflict seq) right.0 (compaction_conflicts st table seq (transaction st session) right.1 right.2)
   conflict_answer (Insert table rows) seq right may = absurd (true≢false (sym right.0))
@@ -252,7 +268,9 @@ module _ (st : State) (session : ℕ) where
   conflict_answer (Delete table filter) seq right may = absurd (true≢false (sym right.0))
   conflict_answer x seq right may = absurd right
 
-  ended_answer : (x : Statement) → IsEndOf st session false x → IsSomeAnd (transaction st session) (λ t. is_unchanged t.pending ≡ true) → Ended ≡ answer st session x
+  ended_answer : (x : Statement) → IsEndOf true st session false x
+      → IsSomeAnd (transaction st session) (λ t. is_unchanged t.pending ≡ true)
+      → Ended ≡ answer st session x
   ended_answer Commit right may = end_ended st (transaction st session) may ∙ open_unrefused (transaction st session) _ _ may
   ended_answer (Compact table) right may = free_answer (Compact table) Ended right.0 (compaction_ended st table (transaction st session) right.1)
   ended_answer (Insert table rows) right may = absurd (true≢false (sym right))
@@ -261,10 +279,14 @@ module _ (st : State) (session : ℕ) where
   ended_answer (Delete table filter) right may = absurd (true≢false (sym right))
   ended_answer x right may = absurd right
 
-  compacted_answer : (x : Statement) (table cells : List ℕ) (marks : List Mark) (seq : ℕ) (added dropped : List Name) → (x ≡ Compact table) × (refusal st session x ≡ None)
-      → IsSomeAnd (transaction st session) (MayCompact st table cells marks seq added dropped) → Compacted table cells marks seq [] [] ≡ answer st session x
+  compacted_answer : (x : Statement) (table cells : List ℕ) (marks : List Mark) (seq : ℕ)
+      (added dropped : List Name) → IsCompactionOf st session x table
+      → IsSomeAnd (transaction st session) (MayCompact true st table cells marks seq added dropped)
+      → Compacted table cells marks seq [] [] ≡ answer st session x
   compacted_answer x table cells marks seq added dropped right may =
-      free_answer x _ right.1 (compaction_done st table cells marks seq added dropped (transaction st session) may ∙ sym (ap (unrefused st session) right.0))
+      free_answer x _ right.1
+      (compaction_done st table cells marks seq added dropped (transaction st session) right.2 may
+      ∙ sym (ap (unrefused st session) right.0))
 
   checkpoint_at : (at : ℕ) (o : Option Transaction) (table : List ℕ) (name : Name) → IsSomeAnd o (MayCheckpoint st table at name) → at ≡ option_map_or (λ t. t.snapshot) o 0
   checkpoint_at at None table name may = absurd may
@@ -280,7 +302,9 @@ module _ (st : State) (session : ℕ) where
   collected_answer x floor right = absurd right
 
   -- where it is no entry that opens a transaction for the statement alone
-  pub one_answer : (x : Statement) (f : Fact) → (IsNone (transaction st session) → runs_alone x ≡ true → ⊥) → IsAllowedFact st session f → IsRight st session false x f → is_failed f ≡ false
+  pub one_answer : (x : Statement) (f : Fact)
+      → (IsNone (transaction st session) → runs_alone x ≡ true → ⊥)
+      → IsAllowedFact true st session f → IsRight true st session false x f → is_failed f ≡ false
       → bare f ≡ answer st session x
   one_answer x (Created table schema seq) opened may right sure = created_answer x table schema seq right.0 right.1 may.2
   one_answer x (Began explicit txn snapshot) opened may right sure = began_answer x explicit txn snapshot right opened may.0 may.1 may.2

@@ -121,16 +121,21 @@ then_end session st (Ran reply change) is = refl
 then_end session st f is = absurd cc
 
 -- a fact that opens a transaction for its statement alone
-alone_right : (st : State) (session : ℕ) (x : Statement) (f : Fact) → is_began_kind (kind_of f) ≡ true → IsAllowedFact st session f → IsRight st session false x f → runs_alone x ≡ true → f ≡ alone st
+alone_right : (st : State) (session : ℕ) (x : Statement) (f : Fact)
+    → is_began_kind (kind_of f) ≡ true → IsAllowedFact true st session f
+    → IsRight true st session false x f → runs_alone x ≡ true → f ≡ alone st
 alone_right st session x (Began true txn snapshot) kind may right runs = let not_begin : false ≡ true = sym (ap runs_alone right) ∙ runs in absurd cc
 alone_right st session x (Began false txn snapshot) kind may right runs = λ i. Began false (may.1 i) (may.2 i)
 alone_right st session x f kind may right runs = absurd cc
 
-ran_reads : (st : State) (session : ℕ) (before : Bool) (x : Statement) (f : Fact) → is_ran_kind (kind_of f) ≡ true → IsRight st session before x f → (reads_rows x ≡ true) × (is_ran f ≡ true)
+ran_reads : (st : State) (session : ℕ) (before : Bool) (x : Statement) (f : Fact)
+    → is_ran_kind (kind_of f) ≡ true → IsRight true st session before x f → (reads_rows x ≡ true)
+    × (is_ran f ≡ true)
 ran_reads st session before x (Ran reply change) kind right = (right.0, refl)
 ran_reads st session before x f kind right = absurd cc
 
-conflict_changes : (st : State) (session : ℕ) (x : Statement) (seq : ℕ) → reads_rows x ≡ true → IsConflictOf st session true x seq → HasChange st session
+conflict_changes : (st : State) (session : ℕ) (x : Statement) (seq : ℕ) → reads_rows x ≡ true
+    → IsConflictOf true st session true x seq → HasChange st session
 conflict_changes st session (Insert table rows) seq reads right = right.1
 conflict_changes st session (Select q) seq reads right = absurd right
 conflict_changes st session (Update table sets filter) seq reads right = right.1
@@ -138,7 +143,9 @@ conflict_changes st session (Delete table filter) seq reads right = right.1
 conflict_changes st session x seq reads right = absurd cc
 
 -- the end of a statement that ran
-end_right : (st : State) (session : ℕ) (x : Statement) (f : Fact) → is_end_kind (kind_of f) ≡ true → reads_rows x ≡ true → IsAllowedFact st session f → IsRight st session true x f → is_failed f ≡ false
+end_right : (st : State) (session : ℕ) (x : Statement) (f : Fact) → is_end_kind (kind_of f) ≡ true
+    → reads_rows x ≡ true → IsAllowedFact true st session f → IsRight true st session true x f
+    → is_failed f ≡ false
     → bare f ≡ end_at st (transaction st session)
 end_right st session x Ended kind reads may right sure = end_ended st (transaction st session) may
 end_right st session x (Committed seq added dropped) kind reads may right sure = end_committed st seq added dropped (transaction st session) may
@@ -147,12 +154,15 @@ end_right st session x (Failed cause) kind reads may right sure = absurd cc
 end_right st session x f kind reads may right sure = absurd cc
 
 -- the entry of a statement that opens no transaction for itself, or has opened it
-one_right : (st : State) (n : Numbered) (before : Bool) (e : Noted) → before ≡ false → (IsNone (transaction st n.session) → runs_alone n.statement ≡ true → ⊥) → IsAllowed st e → IsAnswer n before st e
+one_right : (st : State) (n : Numbered) (before : Bool) (e : Noted) → before ≡ false
+    → (IsNone (transaction st n.session) → runs_alone n.statement ≡ true → ⊥) → IsAllowed true st e
+    → IsAnswer true n before st e
     → is_failed e.entry.fact ≡ false → bare e.entry.fact ≡ answer (bare_state st) n.session n.statement
 one_right st n before e first opened may answers sure =
     one_answer st n.session n.statement e.entry.fact opened
-    (subst (λ (s : ℕ). IsAllowedFact st s e.entry.fact) answers.session may)
-    (subst₂ (λ (s : ℕ) (b : Bool). IsRight st s b n.statement e.entry.fact) answers.session first answers.right)
+    (subst (λ (s : ℕ). IsAllowedFact true st s e.entry.fact) answers.session may)
+    (subst₂ (λ (s : ℕ) (b : Bool). IsRight true st s b n.statement e.entry.fact) answers.session
+    first answers.right)
     sure
     ∙ answer_bare st n.session n.statement
 
@@ -163,12 +173,16 @@ next_right st n e own sure = next_bare e.entry.session e.ends e.entry.fact st su
 alone_opens : (session : ℕ) (ends : Bool) (st : State) → is_some (transaction (after_fact session ends (alone st) st) session) ≡ true
 alone_opens session ends st = rw (eq-eqb session session refl) refl
 
-module _ (st : State) (n : Numbered) (e : Noted) (kind : is_began_kind (kind_of e.entry.fact) ≡ true) (runs : runs_alone n.statement ≡ true) (may : IsAllowed st e) (answers : IsAnswer n false st e)
+module _ (st : State) (n : Numbered) (e : Noted)
+    (kind : is_began_kind (kind_of e.entry.fact) ≡ true) (runs : runs_alone n.statement ≡ true)
+    (may : IsAllowed true st e) (answers : IsAnswer true n false st e)
     (sure : is_failed e.entry.fact ≡ false) where
   opening_fact : e.entry.fact ≡ alone st
   opening_fact =
-      alone_right st n.session n.statement e.entry.fact kind (subst (λ (s : ℕ). IsAllowedFact st s e.entry.fact) answers.session may)
-      (subst (λ (s : ℕ). IsRight st s false n.statement e.entry.fact) answers.session answers.right) runs
+      alone_right st n.session n.statement e.entry.fact kind
+      (subst (λ (s : ℕ). IsAllowedFact true st s e.entry.fact) answers.session may)
+      (subst (λ (s : ℕ). IsRight true st s false n.statement e.entry.fact) answers.session
+      answers.right) runs
 
   opening_bare : bare e.entry.fact ≡ alone (bare_state st)
   opening_bare = ap bare opening_fact
@@ -186,19 +200,25 @@ module _ (st : State) (n : Numbered) (e : Noted) (kind : is_began_kind (kind_of 
   not_ran : is_ran e.entry.fact ≡ false
   not_ran = ap is_ran opening_fact
 
-  second_right : (f : Noted) → IsAllowed (after st e) f → IsAnswer n (is_ran e.entry.fact) (after st e) f → is_failed f.entry.fact ≡ false
+  second_right : (f : Noted) → IsAllowed true (after st e) f
+      → IsAnswer true n (is_ran e.entry.fact) (after st e) f → is_failed f.entry.fact ≡ false
       → bare f.entry.fact ≡ answer (next n.session (alone (bare_state st)) (bare_state st)) n.session n.statement
   second_right f f_may f_answers f_sure =
       one_right (after st e) n (is_ran e.entry.fact) f not_ran (λ none alone. opened none) f_may f_answers f_sure ∙ ap (λ (c : State). answer c n.session n.statement) behind_opening
 
-  two_right : (f : Noted) → is_ran_kind (kind_of f.entry.fact) ≡ false → IsAllowed (after st e) f → IsAnswer n (is_ran e.entry.fact) (after st e) f → is_failed f.entry.fact ≡ false
+  two_right : (f : Noted) → is_ran_kind (kind_of f.entry.fact) ≡ false
+      → IsAllowed true (after st e) f → IsAnswer true n (is_ran e.entry.fact) (after st e) f
+      → is_failed f.entry.fact ≡ false
       → bare e.entry.fact ∷ bare f.entry.fact ∷ [] ≡ right_when true (bare_state st) n.session n.statement
   two_right f f_kind f_may f_answers f_sure =
       let c = next n.session (alone (bare_state st)) (bare_state st) in
       ap (λ (b : Fact). b ∷ bare f.entry.fact ∷ []) opening_bare
       ∙ ap (λ (fs : List Fact). alone (bare_state st) ∷ fs) (sym (then_nothing n.session c f.entry.fact f_kind) ∙ ap (then_ends n.session c) (second_right f f_may f_answers f_sure))
 
-  module _ (r : Noted) (r_kind : is_ran_kind (kind_of r.entry.fact) ≡ true) (r_may : IsAllowed (after st e) r) (r_answers : IsAnswer n (is_ran e.entry.fact) (after st e) r) (r_sure : is_failed r.entry.fact ≡ false) where
+  module _ (r : Noted) (r_kind : is_ran_kind (kind_of r.entry.fact) ≡ true)
+      (r_may : IsAllowed true (after st e) r)
+      (r_answers : IsAnswer true n (is_ran e.entry.fact) (after st e) r)
+      (r_sure : is_failed r.entry.fact ≡ false) where
     behind_ran : bare_state (after (after st e) r) ≡ next n.session (bare r.entry.fact) (next n.session (alone (bare_state st)) (bare_state st))
     behind_ran = next_right (after st e) n r r_answers.session r_sure ∙ ap (λ (c : State). next n.session (bare r.entry.fact) c) behind_opening
 
@@ -208,16 +228,23 @@ module _ (st : State) (n : Numbered) (e : Noted) (kind : is_began_kind (kind_of 
     has_run_now : (is_ran e.entry.fact || is_ran r.entry.fact) ≡ true
     has_run_now = λ i. (not_ran i) || (has_run.1 i)
 
-    third_right : (f : Noted) → is_end_kind (kind_of f.entry.fact) ≡ true → IsAllowed (after (after st e) r) f → IsAnswer n (is_ran e.entry.fact || is_ran r.entry.fact) (after (after st e) r) f → is_failed f.entry.fact ≡ false
+    third_right : (f : Noted) → is_end_kind (kind_of f.entry.fact) ≡ true
+        → IsAllowed true (after (after st e) r) f
+        → IsAnswer true n (is_ran e.entry.fact || is_ran r.entry.fact) (after (after st e) r) f
+        → is_failed f.entry.fact ≡ false
         → let c = next n.session (bare r.entry.fact) (next n.session (alone (bare_state st)) (bare_state st)) in bare f.entry.fact ≡ end_at c (transaction c n.session)
     third_right f f_kind f_may f_answers f_sure =
         let st2 = after (after st e) r in
         end_right st2 n.session n.statement f.entry.fact f_kind has_run.0
-        (subst (λ (s : ℕ). IsAllowedFact st2 s f.entry.fact) f_answers.session f_may)
-        (subst₂ (λ (s : ℕ) (b : Bool). IsRight st2 s b n.statement f.entry.fact) f_answers.session has_run_now f_answers.right) f_sure
+        (subst (λ (s : ℕ). IsAllowedFact true st2 s f.entry.fact) f_answers.session f_may)
+        (subst₂ (λ (s : ℕ) (b : Bool). IsRight true st2 s b n.statement f.entry.fact)
+        f_answers.session has_run_now f_answers.right) f_sure
         ∙ end_bare st2 n.session ∙ ap (λ (c : State). end_at c (transaction c n.session)) behind_ran
 
-    three_right : (f : Noted) → is_end_kind (kind_of f.entry.fact) ≡ true → IsAllowed (after (after st e) r) f → IsAnswer n (is_ran e.entry.fact || is_ran r.entry.fact) (after (after st e) r) f → is_failed f.entry.fact ≡ false
+    three_right : (f : Noted) → is_end_kind (kind_of f.entry.fact) ≡ true
+        → IsAllowed true (after (after st e) r) f
+        → IsAnswer true n (is_ran e.entry.fact || is_ran r.entry.fact) (after (after st e) r) f
+        → is_failed f.entry.fact ≡ false
         → bare e.entry.fact ∷ bare r.entry.fact ∷ bare f.entry.fact ∷ [] ≡ right_when true (bare_state st) n.session n.statement
     three_right f f_kind f_may f_answers f_sure =
         let c = next n.session (alone (bare_state st)) (bare_state st) in
@@ -247,7 +274,9 @@ IsSure e = is_failed e.entry.fact ≡ false
 abbrev kinds : List Noted → List EntryKind
 kinds es = map (λ e. kind_of e.entry.fact) es
 
-opened_run : (st : State) (n : Numbered) (es : List Noted) → runs_alone n.statement ≡ true → are_opened (kinds es) ≡ true → IsLegalFrom st es → AnswerFrom n false (stated st es) → AllByRecursion IsSure es
+opened_run : (st : State) (n : Numbered) (es : List Noted) → runs_alone n.statement ≡ true
+    → are_opened (kinds es) ≡ true → IsLegalFrom true st es → AnswerFrom true n false (stated st es)
+    → AllByRecursion IsSure es
     → bare_facts es ≡ right_when true (bare_state st) n.session n.statement
 opened_run st n [] runs shaped may answers sure = absurd cc
 opened_run st n (e ∷ []) runs shaped may answers sure = absurd cc
@@ -272,7 +301,9 @@ opens_none st session x closed none runs =
     let same : opens (situation st session) x ≡ runs_alone x = ap (λ (b : Bool). opens (if b then inside else outside) x) (none_outside (transaction st session) none) in
     absurd cc
 
-run_when : (st : State) (n : Numbered) (es : List Noted) (o : Bool) → opens (situation st n.session) n.statement ≡ o → are_kinds o (kinds es) ≡ true → IsLegalFrom st es → AnswerFrom n false (stated st es) → AllByRecursion IsSure es
+run_when : (st : State) (n : Numbered) (es : List Noted) (o : Bool)
+    → opens (situation st n.session) n.statement ≡ o → are_kinds o (kinds es) ≡ true
+    → IsLegalFrom true st es → AnswerFrom true n false (stated st es) → AllByRecursion IsSure es
     → bare_facts es ≡ right_when o (bare_state st) n.session n.statement
 run_when st n es true is shaped may answers sure = opened_run st n es (opens_alone (situation st n.session) n.statement is) shaped may answers sure
 run_when st n [] false is shaped may answers sure = absurd cc
@@ -284,7 +315,9 @@ stated_kinds st [] = refl
 stated_kinds st (e ∷ es) = ap (λ (ks : List EntryKind). kind_of e.entry.fact ∷ ks) (stated_kinds (after st e) es)
 
 -- the entries of a statement are the right ones
-pub run_right : (st : State) (n : Numbered) (es : List Noted) → IsLegalFrom st es → IsRun n (stated st es) → AllByRecursion IsSure es → bare_facts es ≡ right_run (bare_state st) n
+pub run_right : (st : State) (n : Numbered) (es : List Noted) → IsLegalFrom true st es
+    → IsRun true n (stated st es) → AllByRecursion IsSure es
+    → bare_facts es ≡ right_run (bare_state st) n
 run_right st n [] may run sure = absurd (no_kinds _ (one_of_all _ (entry_sequences outside n.statement) [] (rows_shaped outside n.statement) run.kinds))
 run_right st n (e ∷ es) may run sure =
     let at = situation st n.session in
@@ -297,7 +330,9 @@ abbrev pub all_next : ℕ → List Fact → State → State
 all_next session [] st = st
 all_next session (f ∷ fs) st = all_next session fs (next session f st)
 
-pub state_right : (st : State) (n : Numbered) (before : Bool) (es : List Noted) → AnswerFrom n before (stated st es) → AllByRecursion IsSure es → bare_state (state_from st es) ≡ all_next n.session (bare_facts es) (bare_state st)
+pub state_right : (st : State) (n : Numbered) (before : Bool) (es : List Noted)
+    → AnswerFrom true n before (stated st es) → AllByRecursion IsSure es
+    → bare_state (state_from st es) ≡ all_next n.session (bare_facts es) (bare_state st)
 state_right st n before [] answers sure = refl
 state_right st n before (e ∷ es) answers sure =
     state_right (after st e) n (before || is_ran e.entry.fact) es answers.1 sure.1 ∙ ap (all_next n.session (bare_facts es)) (next_right st n e answers.0.session sure.0)

@@ -21,7 +21,7 @@ use Rattle.lake_model.specs.Allowed.{IsAllowed, IsAllowedFact, IsLegalFrom, MayC
 use Rattle.lake_model.specs.Compactions.{compacted_table, replaced, version_compacted}
 use Rattle.lake_model.specs.Laws.{IsSound, StatesAreSound, TablesStay, schema_in}
 use Rattle.lake_model.specs.Names.{names_after}
-use Rattle.lake_model.specs.State.{State, Noted, Transaction, opening, last, newest, last_names, with_version, version_at, opened_by, transaction, with_part, turned, ended, after_began, after_fact, after, state_from}
+use Rattle.lake_model.specs.State.{State, Noted, Transaction, opening, last, newest, last_names, with_version, version_at, opened_by, transaction, with_part, turned, ended, with_check, after_began, after_fact, after, state_from}
 use Rattle.lake_model.proofs.Growth.{version_kept, version_made}
 
 -- what holds of each open transaction holds of a session's
@@ -238,6 +238,21 @@ sound_began session explicit number snapshot st sound next newest_one =
     (all_filter _ _ st.running (all_weaker st.running (λ o below same. omega (arith, next, below, same)) sound.given))
     (omega arith) (omega (arith, newest_one)) (omega (arith, newest_one, sound.floor))
 
+-- a checkpoint is written
+sound_checked : (table : List ℕ) (at : ℕ) (name : Name) (st : State) → IsSound st
+    → IsSound (with_check table at name st)
+sound_checked table at name st sound = record {
+  some_version = sound.some_version;
+  counted = sound.counted;
+  floor = sound.floor;
+  sessions = sound.sessions;
+  numbers = sound.numbers;
+  given = sound.given;
+  made = sound.made;
+  kept = sound.kept;
+  tables = sound.tables;
+}
+
 -- the floor is raised
 sound_collected : (floor : ℕ) (names : List Name) (st : State) → IsSound st → MayCollect st names floor → IsSound (record st { floor = floor })
 sound_collected floor names st sound may = record {
@@ -277,32 +292,44 @@ stop_sound : (session : ℕ) (ends : Bool) (st : State) (o : Option Transaction)
 stop_sound session ends st None sound is = sound
 stop_sound session ends st (Some t) sound is = part_sound session t st (t.explicit && not ends) sound is
 
-fact_sound : (session : ℕ) (ends : Bool) (f : Fact) (st : State) → IsSound st → IsAllowedFact st session f → IsSound (after_fact session ends f st)
-fact_sound session ends (Created table schema seq) st sound allowed =
+fact_sound : (told : Bool) (session : ℕ) (ends : Bool) (f : Fact) (st : State) → IsSound st
+    → IsAllowedFact told st session f → IsSound (after_fact session ends f st)
+fact_sound told session ends (Created table schema seq) st sound allowed =
     let made : Table = record { name = table; schema = schema; rows = [] } in
     sound_version st _ [] [] sound (λ name columns has. behind_schema made name columns (newest st).tables has)
-fact_sound session ends (Began explicit txn snapshot) st sound allowed = sound_began session explicit txn snapshot st sound allowed.1 allowed.2
-fact_sound session ends (Ran reply change) st sound allowed = ran_sound session reply change st (transaction st session) sound refl
-fact_sound session ends (Committed seq added dropped) st sound allowed = commit_sound session dropped added st (transaction st session) sound
-fact_sound session ends (Conflict seq) st sound allowed = sound_ended session st sound
-fact_sound session ends Ended st sound allowed = sound_ended session st sound
-fact_sound session ends RolledBack st sound allowed = sound_ended session st sound
-fact_sound session ends (Refused cause) st sound allowed = stop_sound session false st (transaction st session) sound refl
-fact_sound session ends (Failed cause) st sound allowed = stop_sound session ends st (transaction st session) sound refl
-fact_sound session ends (Compacted table cells marks seq added dropped) st sound allowed =
+fact_sound told session ends (Began explicit txn snapshot) st sound allowed =
+    sound_began session explicit txn snapshot st sound allowed.1 allowed.2
+fact_sound told session ends (Ran reply change) st sound allowed =
+    ran_sound session reply change st (transaction st session) sound refl
+fact_sound told session ends (Committed seq added dropped) st sound allowed =
+    commit_sound session dropped added st (transaction st session) sound
+fact_sound told session ends (Conflict seq) st sound allowed = sound_ended session st sound
+fact_sound told session ends Ended st sound allowed = sound_ended session st sound
+fact_sound told session ends RolledBack st sound allowed = sound_ended session st sound
+fact_sound told session ends (Refused cause) st sound allowed =
+    stop_sound session false st (transaction st session) sound refl
+fact_sound told session ends (Failed cause) st sound allowed =
+    stop_sound session ends st (transaction st session) sound refl
+fact_sound told session ends (Compacted table cells marks seq added dropped) st sound allowed =
     sound_ended session _
     (sound_version st (version_compacted table (last st + 1) marks (newest st)) dropped added sound
     (λ name schema has.
     mapped_schema (compacted_table table (last st + 1) marks) (compacted_name table (last st + 1) marks) (compacted_schema table (last st + 1) marks) name (newest st).tables ∙ has))
-fact_sound session ends (Checkpointed table at name) st sound allowed = sound_ended session st sound
-fact_sound session ends (Collected names floor) st sound allowed = sound_collected floor names st sound allowed.1
+fact_sound told session ends (Checkpointed table at name) st sound allowed =
+    sound_ended session _ (sound_checked table at name st sound)
+fact_sound told session ends (Collected names floor) st sound allowed =
+    sound_collected floor names st sound allowed.1
 
-pub sound_after : (st : State) (e : Noted) → IsSound st → IsAllowed st e → IsSound (after st e)
-sound_after st e sound allowed = fact_sound e.entry.session e.ends e.entry.fact st sound allowed
+pub sound_after : (told : Bool) (st : State) (e : Noted) → IsSound st → IsAllowed told st e
+    → IsSound (after st e)
+sound_after told st e sound allowed =
+    fact_sound told e.entry.session e.ends e.entry.fact st sound allowed
 
-sound_from : (st : State) (entries : List Noted) → IsSound st → IsLegalFrom st entries → IsSound (state_from st entries)
-sound_from st [] sound legal = sound
-sound_from st (e ∷ es) sound legal = sound_from (after st e) es (sound_after st e sound legal.0) legal.1
+pub sound_from : (told : Bool) (st : State) (entries : List Noted) → IsSound st
+    → IsLegalFrom told st entries → IsSound (state_from st entries)
+sound_from told st [] sound legal = sound
+sound_from told st (e ∷ es) sound legal =
+    sound_from told (after st e) es (sound_after told st e sound legal.0) legal.1
 
 opening_stays : TablesStay opening
 opening_stays m n name schema up within has =
@@ -323,4 +350,4 @@ sound_opening = record {
 }
 
 pub states_are_sound : StatesAreSound
-states_are_sound entries legal = sound_from opening entries sound_opening legal
+states_are_sound entries legal = sound_from true opening entries sound_opening legal

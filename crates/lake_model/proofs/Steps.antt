@@ -1,5 +1,5 @@
 -- What holds of a chronicle after one statement more.
-use Rattle.std.proofs.Common.{◌≡◌, ℕ, ◌<◌, true, false, nat_eq, List, [], ◌∷◌, ◌++◌, refl, sym, ap, ◌∙◌, subst, arith, inl, inr, eq-eqb, ne_eqb}
+use Rattle.std.proofs.Common.{◌≡◌, ℕ, ◌<◌, Bool, true, false, nat_eq, List, [], ◌∷◌, ◌++◌, refl, sym, ap, ◌∙◌, subst, arith, inl, inr, eq-eqb, ne_eqb}
 use Rattle.std.specs.List.{AllByRecursion, flat_map}
 use Rattle.std.proofs.lemmas.List.Elements.{filter-append}
 use Rattle.std.proofs.lemmas.List.{map-append, append-nil}
@@ -7,11 +7,11 @@ use Rattle.std.proofs.lemmas.Grind.{flat_map-append}
 use Rattle.sql_model.specs.declared.scripts.Numbered.{Numbered}
 use Rattle.sql_model.specs.declared.scripts.Step.{Step}
 use Rattle.sql_model.specs.declared.scripts.Step.TheVariants.{One}
-use Rattle.lake_model.specs.State.{State, Noted, opening, state, state_from, stated, after}
-use Rattle.lake_model.specs.Allowed.{IsLegal, IsLegalFrom}
-use Rattle.lake_model.specs.Following.{Follows, IsAnswered, IsRun, IsInOrder, MayFollow, ShareBlock, places, statements, run_at, run_of}
+use Rattle.lake_model.specs.State.{State, Noted, state_from, stated, after}
+use Rattle.lake_model.specs.Allowed.{IsLegalFrom}
+use Rattle.lake_model.specs.Following.{FollowsFrom, IsAnswered, IsRun, IsInOrder, MayFollow, ShareBlock, places, statements, run_at, run_of}
 use Rattle.sql_model.specs.Listing.{IsOneOf}
-use Rattle.lake_model.specs.Text.{text, statement_text, run_text}
+use Rattle.lake_model.specs.Text.{text_from, statement_text, run_text}
 use Rattle.sql_model.proofs.Lists.{all_append, all_weaker, all_both, one_of_left, one_of_right}
 
 pub state_append : (st : State) (xs ys : List Noted) → state_from st (xs ++ ys) ≡ state_from (state_from st xs) ys
@@ -22,9 +22,11 @@ pub stated_append : (st : State) (xs ys : List Noted) → stated st (xs ++ ys) �
 stated_append st [] ys = refl
 stated_append st (x ∷ xs) ys = ap (λ (ps : List (State × Noted)). (st, x) ∷ ps) (stated_append (after st x) xs ys)
 
-pub legal_append : (st : State) (xs ys : List Noted) → IsLegalFrom st xs → IsLegalFrom (state_from st xs) ys → IsLegalFrom st (xs ++ ys)
-legal_append st [] ys xs_legal ys_legal = ys_legal
-legal_append st (x ∷ xs) ys xs_legal ys_legal = (xs_legal.0, legal_append (after st x) xs ys xs_legal.1 ys_legal)
+pub legal_append : (told : Bool) (st : State) (xs ys : List Noted) → IsLegalFrom told st xs
+    → IsLegalFrom told (state_from st xs) ys → IsLegalFrom told st (xs ++ ys)
+legal_append told st [] ys xs_legal ys_legal = ys_legal
+legal_append told st (x ∷ xs) ys xs_legal ys_legal =
+    (xs_legal.0, legal_append told (after st x) xs ys xs_legal.1 ys_legal)
 
 -- entries of other places are none of this one
 pub run_at_others : (place : ℕ) (st : State) (xs : List Noted) → AllByRecursion (λ e. nat_eq e.entry.place place ≡ false) xs → run_at place (stated st xs) ≡ []
@@ -41,43 +43,60 @@ place_below place p [] all h = absurd h
 place_below place p (n ∷ ns) all (inl e) = omega (arith, e, all.0)
 place_below place p (n ∷ ns) all (inr h) = place_below place p ns all.1 h
 
-module _ (old run : List Noted) (done : List Step) (n : Numbered) (follows : Follows old done)
-    (below : AllByRecursion (λ m. m.place < n.place) (statements done)) (answered : IsAnswered (state old) n run) where
+module _ (told : Bool) (st : State) (old run : List Noted) (done : List Step) (n : Numbered)
+    (follows : FollowsFrom told st old done)
+    (below : AllByRecursion (λ m. m.place < n.place) (statements done))
+    (answered : IsAnswered told (state_from st old) n run) where
   old_below : AllByRecursion (λ e. e.entry.place < n.place) old
   old_below = all_weaker old (λ e h. place_below n.place e.entry.place (statements done) below h) follows.no_others
 
-  split_at : (place : ℕ) → run_of place (old ++ run) ≡ run_of place old ++ run_at place (stated (state old) run)
+  split_at : (place : ℕ)
+      → run_of place st (old ++ run) ≡ run_of place st old ++ run_at place
+      (stated (state_from st old) run)
   split_at place =
-      ap (λ (ps : List (State × Noted)). run_at place ps) (stated_append opening old run)
-      ∙ filter-append _ (stated opening old) (stated (state old) run)
+      ap (λ (ps : List (State × Noted)). run_at place ps) (stated_append st old run)
+      ∙ filter-append _ (stated st old) (stated (state_from st old) run)
 
-  run_before : (place : ℕ) → place < n.place → run_of place (old ++ run) ≡ run_of place old
+  run_before : (place : ℕ) → place < n.place → run_of place st (old ++ run) ≡ run_of place st old
   run_before place less =
       split_at place
-      ∙ ap (λ (ps : List (State × Noted)). run_of place old ++ ps)
-      (run_at_others place (state old) run (all_weaker run (λ e own. ne_eqb e.entry.place place (λ same. omega (arith, own, same))) answered.own))
-      ∙ append-nil (run_of place old)
+      ∙ ap (λ (ps : List (State × Noted)). run_of place st old ++ ps)
+      (run_at_others place (state_from st old) run
+      (all_weaker run (λ e own. ne_eqb e.entry.place place (λ same. omega (arith, own, same)))
+      answered.own))
+      ∙ append-nil (run_of place st old)
 
-  run_now : run_of n.place (old ++ run) ≡ stated (state old) run
+  run_now : run_of n.place st (old ++ run) ≡ stated (state_from st old) run
   run_now =
       split_at n.place
-      ∙ ap (λ (ps : List (State × Noted)). ps ++ run_at n.place (stated (state old) run))
-      (run_at_others n.place opening old (all_weaker old (λ e less. ne_eqb e.entry.place n.place (λ same. omega (arith, less, same))) old_below))
-      ∙ run_at_own n.place (state old) run (all_weaker run (λ e own. eq-eqb e.entry.place n.place own) answered.own)
+      ∙ ap (λ (ps : List (State × Noted)). ps ++ run_at n.place (stated (state_from st old) run))
+      (run_at_others n.place st old
+      (all_weaker old (λ e less. ne_eqb e.entry.place n.place (λ same. omega (arith, less, same)))
+      old_below))
+      ∙ run_at_own n.place (state_from st old) run
+      (all_weaker run (λ e own. eq-eqb e.entry.place n.place own) answered.own)
 
   statements_more : statements (done ++ One n ∷ []) ≡ statements done ++ n ∷ []
   statements_more = flat_map-append _ done (One n ∷ [])
 
-  pub legal_more : IsLegal old → IsLegal (old ++ run)
-  legal_more legal = legal_append opening old run legal answered.legal
+  pub legal_more : IsLegalFrom told st old → IsLegalFrom told st (old ++ run)
+  legal_more legal = legal_append told st old run legal answered.legal
 
-  runs_more : AllByRecursion (λ m. IsRun m (run_of m.place (old ++ run))) (statements (done ++ One n ∷ []))
+  runs_more : AllByRecursion (λ m. IsRun told m (run_of m.place st (old ++ run)))
+      (statements (done ++ One n ∷ []))
   runs_more =
-      let P : List Numbered → Type 0 = λ ns. AllByRecursion (λ m. IsRun m (run_of m.place (old ++ run))) ns in
+      let P : List Numbered
+      → Type 0 = λ ns. AllByRecursion (λ m. IsRun told m (run_of m.place st (old ++ run))) ns in
       subst P (sym statements_more)
       (all_append _ (statements done) (n ∷ [])
-      (all_both (statements done) (λ m less right. let R : List (State × Noted) → Type 0 = λ ps. IsRun m ps in subst R (sym (run_before m.place less)) right) below follows.runs)
-      ((let R : List (State × Noted) → Type 0 = λ ps. IsRun n ps in subst R (sym run_now) answered.right), tt))
+      (all_both (statements done)
+      (λ m less right. let R : List (State × Noted)
+      → Type 0 = λ ps. IsRun told m ps in subst R (sym (run_before m.place less)) right) below
+      follows.runs) (
+        (let R : List (State × Noted)
+            → Type 0 = λ ps. IsRun told n ps in subst R (sym run_now) answered.right),
+        tt,
+      ))
 
   places_more : places (statements (done ++ One n ∷ [])) ≡ places (statements done) ++ n.place ∷ []
   places_more = ap places statements_more ∙ map-append _ (statements done) (n ∷ [])
@@ -110,22 +129,27 @@ module _ (old run : List Noted) (done : List Step) (n : Numbered) (follows : Fol
     in_order_more es less.1 order.1,
   )
 
-  pub follows_more : Follows (old ++ run) (done ++ One n ∷ [])
+  pub follows_more : FollowsFrom told st (old ++ run) (done ++ One n ∷ [])
   follows_more = record { runs = runs_more; no_others = no_others_more; order = in_order_more old old_below follows.order }
 
-  text_before : (ms : List Numbered) → AllByRecursion (λ m. m.place < n.place) ms → flat_map (statement_text (old ++ run)) ms ≡ flat_map (statement_text old) ms
+  text_before : (ms : List Numbered) → AllByRecursion (λ m. m.place < n.place) ms
+      → flat_map (statement_text st (old ++ run)) ms ≡ flat_map (statement_text st old) ms
   text_before [] less = refl
   text_before (m ∷ ms) less =
-      ap (λ (ps : List (State × Noted)). run_text m ps ++ flat_map (statement_text (old ++ run)) ms) (run_before m.place less.0)
-      ∙ ap (λ (front : List ℕ). statement_text old m ++ front) (text_before ms less.1)
+      ap (λ (ps : List (State × Noted)). run_text m ps ++ flat_map
+      (statement_text st (old ++ run)) ms) (run_before m.place less.0)
+      ∙ ap (λ (front : List ℕ). statement_text st old m ++ front) (text_before ms less.1)
 
-  pub text_more : text (old ++ run) (done ++ One n ∷ []) ≡ text old done ++ run_text n (stated (state old) run)
+  pub text_more : text_from st (old ++ run)
+      (done ++ One n ∷ []) ≡ text_from st old done ++ run_text n (stated (state_from st old) run)
   text_more =
-      ap (λ (ns : List Numbered). flat_map (statement_text (old ++ run)) ns) statements_more
-      ∙ flat_map-append (statement_text (old ++ run)) (statements done) (n ∷ [])
-      ∙ ap (λ (front : List ℕ). front ++ flat_map (statement_text (old ++ run)) (n ∷ [])) (text_before (statements done) below)
-      ∙ ap (λ (back : List ℕ). text old done ++ back) (append-nil _ ∙ ap (run_text n) run_now)
+      ap (λ (ns : List Numbered). flat_map (statement_text st (old ++ run)) ns) statements_more
+      ∙ flat_map-append (statement_text st (old ++ run)) (statements done) (n ∷ [])
+      ∙ ap (λ (front : List ℕ). front ++ flat_map (statement_text st (old ++ run)) (n ∷ []))
+      (text_before (statements done) below)
+      ∙ ap (λ (back : List ℕ). text_from st old done ++ back)
+      (append-nil _ ∙ ap (run_text n) run_now)
 
   -- what the statements before were answered stays
-  pub text_kept : text (old ++ run) done ≡ text old done
+  pub text_kept : text_from st (old ++ run) done ≡ text_from st old done
   text_kept = text_before (statements done) below

@@ -12,11 +12,12 @@ use Rattle.sql_model.specs.declared.replies.Refusal.TheVariants.{UnknownTable, U
 use Rattle.sql_model.specs.declared.replies.Reply.{Reply}
 use Rattle.sql_model.specs.declared.replies.Reply.TheVariants as reply
 use Rattle.sql_model.specs.Changes.{no_change, is_nil, is_unchanged}
-use Rattle.sql_model.specs.Units.{units_of, units_of_compaction}
+use Rattle.sql_model.specs.Units.{units_of, units_of_marks}
 use Rattle.lake_model.specs.Compactions.{due, marks_in}
 use Rattle.lake_model.specs.Conflicts.{first_conflict}
 use Rattle.sql_model.specs.Listing.{IsPartOf}
 use Rattle.lake_model.specs.Names.{holds_rows, is_checkpoint}
+use Rattle.lake_model.specs.Told.{WhereTold}
 use Rattle.lake_values.specs.Names.{is_among, is_ascending}
 use Rattle.sql_model.specs.Versions.{Tables, has_table, all_rows}
 use Rattle.lake_model.specs.State.{State, Noted, Transaction, opening, last, newest, last_names, version_at, transaction, view, is_inside, after}
@@ -41,8 +42,9 @@ ChangesByReply (reply.Failed cause) change = ⊥
 
 -- What a statement may answer and change in its session's transaction. It removes rows that the session sees, and adds
 -- rows as the transaction's next part: for a table at most once, and then some.
-pub record IsOwnChange (seen : Tables) (said : Reply) (change : Change) (t : Transaction) : Type 0 where
-  pub removes : IsPartOf change.removed (all_rows seen)
+pub record IsOwnChange
+    (told : Bool) (seen : Tables) (said : Reply) (change : Change) (t : Transaction) : Type 0 where
+  pub removes : WhereTold told (IsPartOf change.removed (all_rows seen))
   pub adds : AllByRecursion (λ a. a.part ≡ t.parts + 1) change.added
   pub once : AllDistinct (map (λ a. a.table) change.added)
   pub filled : AllByRecursion (λ a. is_nil a.rows ≡ false) change.added
@@ -52,15 +54,24 @@ pub record IsOwnChange (seen : Tables) (said : Reply) (change : Change) (t : Tra
 abbrev pub is_new_name : State → ℕ → Name → Bool
 is_new_name st number name = holds_rows name && (name.txn == number) && not (list_any (is_among name) st.names)
 
--- a commit of this transaction may add these names and drop those
+-- a commit of this transaction may add these names, and both these and those that it drops ascend
 abbrev pub can_rename : State → ℕ → List Name → List Name → Bool
 can_rename st number added dropped =
-    list_all (is_new_name st number) added && is_ascending added && list_all (λ n. is_among n (last_names st)) dropped && is_ascending dropped
+    list_all (is_new_name st number) added && is_ascending added && is_ascending dropped
+
+-- the last version has the names
+abbrev pub has_names : State → List Name → Bool
+has_names st names = list_all (λ n. is_among n (last_names st)) names
 
 -- the transaction's change may become the next version
-abbrev pub MayCommit : State → ℕ → List Name → List Name → Transaction → Type 0
-MayCommit st seq added dropped t =
-    (is_unchanged t.pending ≡ false) × (first_conflict st t.snapshot (units_of t.pending) ≡ None) × (seq ≡ last st + 1) × (can_rename st t.number added dropped ≡ true)
+pub record MayCommit
+    (told : Bool) (st : State) (seq : ℕ) (added dropped : List Name)
+    (t : Transaction) : Type 0 where
+  pub changed : is_unchanged t.pending ≡ false
+  pub free : first_conflict st t.snapshot (units_of t.pending) ≡ None
+  pub next : seq ≡ last st + 1
+  pub renames : can_rename st t.number added dropped ≡ true
+  pub drops : WhereTold told (has_names st dropped ≡ true)
 
 -- what a transaction has changed conflicts with this commit; one without a change, as a compaction's, with any that
 -- came after its snapshot
@@ -71,12 +82,19 @@ MayConflict st seq t = MatchBool (is_unchanged t.pending) ((t.snapshot < seq) ×
 abbrev pub is_single : Transaction → Bool
 is_single t = not t.explicit && is_unchanged t.pending
 
--- the cells are those of the table that are due at the snapshot, and the marks those of their rows there
-abbrev pub MayCompact : State → List ℕ → List ℕ → List Mark → ℕ → List Name → List Name → Transaction → Type 0
-MayCompact st table cells marks seq added dropped t =
-    (is_single t ≡ true) × (cells ≡ due table (version_at st t.snapshot)) × (cells ≢ [])
-    × (marks ≡ marks_in table cells (version_at st t.snapshot).tables)
-    × (first_conflict st t.snapshot (units_of_compaction table marks) ≡ None) × (seq ≡ last st + 1) × (can_rename st t.number added dropped ≡ true)
+-- The cells are those of the table that are due at the snapshot, and the marks those of their rows
+-- there. No commit after the snapshot wrote a unit of these marks.
+pub record MayCompact
+    (told : Bool) (st : State) (table cells : List ℕ) (marks : List Mark) (seq : ℕ)
+    (added dropped : List Name) (t : Transaction) : Type 0 where
+  pub single : is_single t ≡ true
+  pub all_due : WhereTold told (cells ≡ due table (version_at st t.snapshot))
+  pub some : cells ≢ []
+  pub all_marks : WhereTold told (marks ≡ marks_in table cells (version_at st t.snapshot).tables)
+  pub free : first_conflict st t.snapshot (units_of_marks marks) ≡ None
+  pub next : seq ≡ last st + 1
+  pub renames : can_rename st t.number added dropped ≡ true
+  pub drops : WhereTold told (has_names st dropped ≡ true)
 
 abbrev pub MayCheckpoint : State → List ℕ → ℕ → Name → Transaction → Type 0
 MayCheckpoint st table at name t =
@@ -115,27 +133,37 @@ IsAllowedRefusal st session InTransaction = is_inside st session ≡ true
 IsAllowedRefusal st session TooManyRows = Unit {0}
 IsAllowedRefusal st session Arith = Unit {0}
 
-abbrev pub IsAllowedFact : State → ℕ → Fact → Type 0
-IsAllowedFact st session (Created table schema seq) = IsNone (transaction st session) × (has_table table (newest st).tables ≡ false) × (seq ≡ last st + 1)
-IsAllowedFact st session (Began explicit txn snapshot) = IsNone (transaction st session) × (txn ≡ st.last_number + 1) × (snapshot ≡ last st)
-IsAllowedFact st session (Ran reply change) = IsSomeAnd (transaction st session) (IsOwnChange (view st session) reply change)
-IsAllowedFact st session (Committed seq added dropped) = IsSomeAnd (transaction st session) (MayCommit st seq added dropped)
-IsAllowedFact st session (Conflict seq) = IsSomeAnd (transaction st session) (MayConflict st seq)
-IsAllowedFact st session Ended = IsSomeAnd (transaction st session) (λ t. is_unchanged t.pending ≡ true)
-IsAllowedFact st session RolledBack = is_inside st session ≡ true
-IsAllowedFact st session (Refused cause) = IsAllowedRefusal st session cause
-IsAllowedFact st session (Failed cause) = Unit {0}
-IsAllowedFact st session (Compacted table cells marks seq added dropped) = IsSomeAnd (transaction st session) (MayCompact st table cells marks seq added dropped)
-IsAllowedFact st session (Checkpointed table at name) = IsSomeAnd (transaction st session) (MayCheckpoint st table at name)
-IsAllowedFact st session (Collected names floor) = IsNone (transaction st session) × MayCollect st names floor
+abbrev pub IsAllowedFact : Bool → State → ℕ → Fact → Type 0
+IsAllowedFact told st session (Created table schema seq) =
+    IsNone (transaction st session)
+    × (has_table table (newest st).tables ≡ false) × (seq ≡ last st + 1)
+IsAllowedFact told st session (Began explicit txn snapshot) =
+    IsNone (transaction st session) × (txn ≡ st.last_number + 1) × (snapshot ≡ last st)
+IsAllowedFact told st session (Ran reply change) =
+    IsSomeAnd (transaction st session) (IsOwnChange told (view st session).tables reply change)
+IsAllowedFact told st session (Committed seq added dropped) =
+    IsSomeAnd (transaction st session) (MayCommit told st seq added dropped)
+IsAllowedFact told st session (Conflict seq) =
+    IsSomeAnd (transaction st session) (MayConflict st seq)
+IsAllowedFact told st session Ended =
+    IsSomeAnd (transaction st session) (λ t. is_unchanged t.pending ≡ true)
+IsAllowedFact told st session RolledBack = is_inside st session ≡ true
+IsAllowedFact told st session (Refused cause) = IsAllowedRefusal st session cause
+IsAllowedFact told st session (Failed cause) = Unit {0}
+IsAllowedFact told st session (Compacted table cells marks seq added dropped) =
+    IsSomeAnd (transaction st session) (MayCompact told st table cells marks seq added dropped)
+IsAllowedFact told st session (Checkpointed table at name) =
+    IsSomeAnd (transaction st session) (MayCheckpoint st table at name)
+IsAllowedFact told st session (Collected names floor) =
+    IsNone (transaction st session) × MayCollect st names floor
 
-abbrev pub IsAllowed : State → Noted → Type 0
-IsAllowed st e = IsAllowedFact st e.entry.session e.entry.fact
+abbrev pub IsAllowed : Bool → State → Noted → Type 0
+IsAllowed told st e = IsAllowedFact told st e.entry.session e.entry.fact
 
-abbrev pub IsLegalFrom : State → List Noted → Type 0
-IsLegalFrom st [] = Unit {0}
-IsLegalFrom st (e ∷ es) = IsAllowed st e × IsLegalFrom (after st e) es
+abbrev pub IsLegalFrom : Bool → State → List Noted → Type 0
+IsLegalFrom told st [] = Unit {0}
+IsLegalFrom told st (e ∷ es) = IsAllowed told st e × IsLegalFrom told (after st e) es
 
 -- each entry is allowed in the state of the entries before it
-abbrev pub IsLegal : List Noted → Type 0
-IsLegal entries = IsLegalFrom opening entries
+abbrev pub IsLegal : Bool → List Noted → Type 0
+IsLegal told entries = IsLegalFrom told opening entries

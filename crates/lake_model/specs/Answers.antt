@@ -1,7 +1,8 @@
 -- Which entry answers a statement rightly in a state.
-use Rattle.std.specs.Prelude.{◌≡◌, ◌≢◌, ℕ, ◌-◌, Bool, true, false, ◌&&◌, ◌||◌, List, [], Option, None, Some, Ok, fold, min, max, IsSomeAnd, MatchBool}
+use Rattle.std.specs.Prelude.{◌≡◌, ◌≢◌, ℕ, ◌-◌, Bool, true, false, not, ◌&&◌, ◌||◌, List, [], Option, None, Some, Ok, fold, min, max, IsSomeAnd, MatchBool}
 use Rattle.std.specs.Option.{option_map_or}
 use Rattle.lake_values.specs.Schemas.{TableColumns}
+use Rattle.lake_values.specs.declared.values.Value.{Value}
 use Rattle.sql_model.specs.declared.changes.Change.{Change}
 use Rattle.lake_model.specs.declared.entries.Fact.{Fact}
 use Rattle.lake_model.specs.declared.entries.Fact.TheVariants.{Created, Began, Ran, Committed, Conflict, Ended, RolledBack, Refused, Failed, Compacted, Checkpointed, Collected}
@@ -10,14 +11,19 @@ use Rattle.sql_model.specs.declared.replies.Failure.TheVariants.{StoreFault}
 use Rattle.sql_model.specs.declared.replies.Refusal.{Refusal}
 use Rattle.sql_model.specs.declared.replies.Refusal.TheVariants.{UnknownTable, UnknownColumn, Ambiguous, TypeMismatch, ColumnCount, NotGrouped, TableExists, NoTransaction, InTransaction, TooManyRows, Arith}
 use Rattle.sql_model.specs.declared.replies.Reply.{Reply}
+use Rattle.sql_model.specs.declared.replies.Reply.TheVariants.{Rows}
+use Rattle.sql_model.specs.declared.replies.Verb.{Verb}
+use Rattle.sql_model.specs.declared.replies.Verb.TheVariants.{Inserted, Updated, Deleted}
 use Rattle.sql_model.specs.declared.statements.Statement.{Statement}
 use Rattle.sql_model.specs.declared.statements.Statement.TheVariants.{Create, Begin, Commit, RollBack, Insert, Select, Update, Delete, Compact, Checkpoint, Collect}
 use Rattle.sql_model.specs.Changes.{is_unchanged}
-use Rattle.lake_model.specs.Compactions.{due, marks_in}
+use Rattle.lake_model.specs.Compactions.{due}
 use Rattle.lake_model.specs.Conflicts.{first_conflict}
-use Rattle.sql_model.specs.Units.{ConflictUnit, units_of_compaction}
+use Rattle.sql_model.specs.Units.{units_of_compaction}
+use Rattle.sql_model.specs.Writing.{wrote}
 use Rattle.lake_model.specs.State.{State, last, version_at, transaction}
-use Rattle.lake_model.specs.Refusals.{refusal, result_of}
+use Rattle.lake_model.specs.Refusals.{binding_refusal, refusal, result_of}
+use Rattle.lake_model.specs.Told.{WhereTold}
 use Rattle.sql_model.specs.StatementKinds.{reads_rows, runs_alone, may_fail, is_write, is_commit, is_collect}
 use Rattle.sql_model.specs.Creating.{schema_of}
 
@@ -35,9 +41,32 @@ IsCreateOf (Compact table) name schema = ⊥
 IsCreateOf (Checkpoint table) name schema = ⊥
 IsCreateOf (Collect retain) name schema = ⊥
 
--- it answers and changes what it does over what its session sees
-abbrev pub IsRunOf : State → ℕ → Statement → Reply → Change → Type 0
-IsRunOf st session x reply change = (reads_rows x ≡ true) × (result_of st session x ≡ Ok (reply, change))
+-- the reply says that so many rows were written
+abbrev pub IsCountOf : Verb → Reply → Type 0
+IsCountOf verb reply = (count : ℕ) × (reply ≡ wrote verb count)
+
+-- the reply is of the statement's kind: rows, or how many it wrote
+abbrev pub IsReplyTo : Statement → Reply → Type 0
+IsReplyTo (Create table columns distribution) reply = ⊥
+IsReplyTo Begin reply = ⊥
+IsReplyTo Commit reply = ⊥
+IsReplyTo RollBack reply = ⊥
+IsReplyTo (Insert table rows) reply = IsCountOf Inserted reply
+IsReplyTo (Select q) reply = (rows : List (List Value)) × (reply ≡ Rows rows)
+IsReplyTo (Update table sets filter) reply = IsCountOf Updated reply
+IsReplyTo (Delete table filter) reply = IsCountOf Deleted reply
+IsReplyTo (Compact table) reply = ⊥
+IsReplyTo (Checkpoint table) reply = ⊥
+IsReplyTo (Collect retain) reply = ⊥
+
+-- It answers and changes what it does over what its session sees. Where nothing is told of rows,
+-- it is only known that it is bound over the tables there, and that its reply is of its kind.
+abbrev pub IsRunOf : Bool → State → ℕ → Statement → Reply → Change → Type 0
+IsRunOf told st session x reply change =
+    (reads_rows x ≡ true)
+    × MatchBool told
+    (result_of st session x ≡ Ok (reply, change))
+    ((binding_refusal st session x ≡ None) × IsReplyTo x reply)
 
 -- a COMMIT commits, and a write that stands alone, after it ran
 abbrev pub commits : Bool → Statement → Bool
@@ -50,57 +79,57 @@ HasChange st session = IsSomeAnd (transaction st session) (λ t. is_unchanged t.
 abbrev pub due_at_snapshot : State → ℕ → List ℕ → List ℕ
 due_at_snapshot st session table = option_map_or (λ t. due table (version_at st t.snapshot)) (transaction st session) []
 
--- what a compaction of the table at a snapshot writes
-abbrev pub compaction_units : State → List ℕ → ℕ → List ConflictUnit
-compaction_units st table snapshot =
-    let version = version_at st snapshot in units_of_compaction table (marks_in table (due table version) version.tables)
-
 -- the first commit since the session's snapshot that wrote what a compaction of the table writes
 abbrev pub compaction_conflict : State → ℕ → List ℕ → Option ℕ
-compaction_conflict st session table = option_map_or (λ t. first_conflict st t.snapshot (compaction_units st table t.snapshot)) (transaction st session) None
+compaction_conflict st session table =
+    let units = units_of_compaction table in
+    option_map_or (λ t. first_conflict st t.snapshot units) (transaction st session) None
 
 -- a write that stands alone would commit: it ran, and changed something
 abbrev pub WouldCommit : State → ℕ → Bool → Type 0
 WouldCommit st session ran = (ran ≡ true) × HasChange st session
 
 -- something is due in the table, and a commit after the session's snapshot wrote what its compaction would write
-abbrev pub IsCompactionConflict : State → ℕ → List ℕ → ℕ → Type 0
-IsCompactionConflict st session table seq =
-    (refusal st session (Compact table) ≡ None) × (due_at_snapshot st session table ≢ [])
+abbrev pub IsCompactionConflict : Bool → State → ℕ → List ℕ → ℕ → Type 0
+IsCompactionConflict told st session table seq =
+    (refusal st session (Compact table) ≡ None)
+    × WhereTold told (due_at_snapshot st session table ≢ [])
     × (compaction_conflict st session table ≡ Some seq)
 
 -- a COMMIT conflicts where there is a change, a write where it would commit, and a compaction as said
-abbrev pub IsConflictOf : State → ℕ → Bool → Statement → ℕ → Type 0
-IsConflictOf st session ran (Create table columns distribution) seq = ⊥
-IsConflictOf st session ran Begin seq = ⊥
-IsConflictOf st session ran Commit seq = HasChange st session
-IsConflictOf st session ran RollBack seq = ⊥
-IsConflictOf st session ran (Insert table rows) seq = WouldCommit st session ran
-IsConflictOf st session ran (Select q) seq = ⊥
-IsConflictOf st session ran (Update table sets filter) seq = WouldCommit st session ran
-IsConflictOf st session ran (Delete table filter) seq = WouldCommit st session ran
-IsConflictOf st session ran (Compact table) seq = IsCompactionConflict st session table seq
-IsConflictOf st session ran (Checkpoint table) seq = ⊥
-IsConflictOf st session ran (Collect retain) seq = ⊥
+abbrev pub IsConflictOf : Bool → State → ℕ → Bool → Statement → ℕ → Type 0
+IsConflictOf told st session ran (Create table columns distribution) seq = ⊥
+IsConflictOf told st session ran Begin seq = ⊥
+IsConflictOf told st session ran Commit seq = HasChange st session
+IsConflictOf told st session ran RollBack seq = ⊥
+IsConflictOf told st session ran (Insert table rows) seq = WouldCommit st session ran
+IsConflictOf told st session ran (Select q) seq = ⊥
+IsConflictOf told st session ran (Update table sets filter) seq = WouldCommit st session ran
+IsConflictOf told st session ran (Delete table filter) seq = WouldCommit st session ran
+IsConflictOf told st session ran (Compact table) seq =
+    IsCompactionConflict told st session table seq
+IsConflictOf told st session ran (Checkpoint table) seq = ⊥
+IsConflictOf told st session ran (Collect retain) seq = ⊥
 
 -- the compaction of the table isn't refused, and nothing is due
-abbrev pub HasNothingDue : State → ℕ → List ℕ → Type 0
-HasNothingDue st session table =
-    (refusal st session (Compact table) ≡ None) × (due_at_snapshot st session table ≡ [])
+abbrev pub HasNothingDue : Bool → State → ℕ → List ℕ → Type 0
+HasNothingDue told st session table =
+    (refusal st session (Compact table) ≡ None)
+    × WhereTold told (due_at_snapshot st session table ≡ [])
 
 -- a COMMIT without a change ends, a statement that stands alone after it ran, and a compaction where nothing is due
-abbrev pub IsEndOf : State → ℕ → Bool → Statement → Type 0
-IsEndOf st session ran (Create table columns distribution) = ⊥
-IsEndOf st session ran Begin = ⊥
-IsEndOf st session ran Commit = Unit {0}
-IsEndOf st session ran RollBack = ⊥
-IsEndOf st session ran (Insert table rows) = ran ≡ true
-IsEndOf st session ran (Select q) = ran ≡ true
-IsEndOf st session ran (Update table sets filter) = ran ≡ true
-IsEndOf st session ran (Delete table filter) = ran ≡ true
-IsEndOf st session ran (Compact table) = HasNothingDue st session table
-IsEndOf st session ran (Checkpoint table) = ⊥
-IsEndOf st session ran (Collect retain) = ⊥
+abbrev pub IsEndOf : Bool → State → ℕ → Bool → Statement → Type 0
+IsEndOf told st session ran (Create table columns distribution) = ⊥
+IsEndOf told st session ran Begin = ⊥
+IsEndOf told st session ran Commit = Unit {0}
+IsEndOf told st session ran RollBack = ⊥
+IsEndOf told st session ran (Insert table rows) = ran ≡ true
+IsEndOf told st session ran (Select q) = ran ≡ true
+IsEndOf told st session ran (Update table sets filter) = ran ≡ true
+IsEndOf told st session ran (Delete table filter) = ran ≡ true
+IsEndOf told st session ran (Compact table) = HasNothingDue told st session table
+IsEndOf told st session ran (Checkpoint table) = ⊥
+IsEndOf told st session ran (Collect retain) = ⊥
 
 -- a refusal that comes behind a fault of the store, or none
 abbrev pub may_come_late : Option Refusal → Bool
@@ -125,8 +154,11 @@ pub record IsFailureOf (st : State) (session : ℕ) (ran : Bool) (x : Statement)
   pub change : MatchBool (is_commit x || ran) (HasChange st session) (Unit {0})
   pub own_calls : MatchBool (is_commit x || is_collect x || ran) (cause ≡ StoreFault 0) (Unit {0})
 
+-- it compacts the table, and no commit after the session's snapshot wrote what that writes
 abbrev pub IsCompactionOf : State → ℕ → Statement → List ℕ → Type 0
-IsCompactionOf st session x table = (x ≡ Compact table) × (refusal st session x ≡ None)
+IsCompactionOf st session x table =
+    (x ≡ Compact table) × (refusal st session x ≡ None)
+    × (compaction_conflict st session table ≡ None)
 
 abbrev pub IsCheckpointOf : State → ℕ → Statement → List ℕ → Type 0
 IsCheckpointOf st session x table = (x ≡ Checkpoint table) × (refusal st session x ≡ None)
@@ -154,17 +186,28 @@ IsCollectionOf st session (Checkpoint table) floor = ⊥
 IsCollectionOf st session (Collect retain) floor =
     (floor ≡ floor_after st retain) × (refusal st session (Collect retain) ≡ None)
 
+-- It is the refusal that holds. Where nothing is told of rows, it is only known of a cause that
+-- comes of rows that the statement reads rows and binding doesn't refuse it.
+abbrev pub IsRefusalOf : Bool → State → ℕ → Statement → Refusal → Type 0
+IsRefusalOf told st session x cause =
+    MatchBool (told || not (may_come_late (Some cause)))
+    (refusal st session x ≡ Some cause)
+    ((reads_rows x ≡ true) × (binding_refusal st session x ≡ None))
+
 -- `ran` says that a Ran of the same statement stands before
-abbrev pub IsRight : State → ℕ → Bool → Statement → Fact → Type 0
-IsRight st session ran x (Created table schema seq) = IsCreateOf x table schema × (refusal st session x ≡ None)
-IsRight st session ran x (Began explicit txn snapshot) = MatchBool explicit (x ≡ Begin) (runs_alone x ≡ true)
-IsRight st session ran x (Ran reply change) = IsRunOf st session x reply change
-IsRight st session ran x (Committed seq added dropped) = commits ran x ≡ true
-IsRight st session ran x (Conflict seq) = IsConflictOf st session ran x seq
-IsRight st session ran x Ended = IsEndOf st session ran x
-IsRight st session ran x RolledBack = x ≡ RollBack
-IsRight st session ran x (Refused cause) = refusal st session x ≡ Some cause
-IsRight st session ran x (Failed cause) = IsFailureOf st session ran x cause
-IsRight st session ran x (Compacted table cells marks seq added dropped) = IsCompactionOf st session x table
-IsRight st session ran x (Checkpointed table at name) = IsCheckpointOf st session x table
-IsRight st session ran x (Collected names floor) = IsCollectionOf st session x floor
+abbrev pub IsRight : Bool → State → ℕ → Bool → Statement → Fact → Type 0
+IsRight told st session ran x (Created table schema seq) =
+    IsCreateOf x table schema × (refusal st session x ≡ None)
+IsRight told st session ran x (Began explicit txn snapshot) =
+    MatchBool explicit (x ≡ Begin) (runs_alone x ≡ true)
+IsRight told st session ran x (Ran reply change) = IsRunOf told st session x reply change
+IsRight told st session ran x (Committed seq added dropped) = commits ran x ≡ true
+IsRight told st session ran x (Conflict seq) = IsConflictOf told st session ran x seq
+IsRight told st session ran x Ended = IsEndOf told st session ran x
+IsRight told st session ran x RolledBack = x ≡ RollBack
+IsRight told st session ran x (Refused cause) = IsRefusalOf told st session x cause
+IsRight told st session ran x (Failed cause) = IsFailureOf st session ran x cause
+IsRight told st session ran x (Compacted table cells marks seq added dropped) =
+    IsCompactionOf st session x table
+IsRight told st session ran x (Checkpointed table at name) = IsCheckpointOf st session x table
+IsRight told st session ran x (Collected names floor) = IsCollectionOf st session x floor

@@ -4,7 +4,7 @@ use Rattle.std.specs.List.{list_any}
 use Rattle.sql_model.specs.declared.changes.Mark.{Mark}
 use Rattle.sql_model.specs.declared.changes.MarkedRow.{MarkedRow}
 use Rattle.sql_model.specs.Changes.{mark_cmp, same_mark, has_mark}
-use Rattle.sql_model.specs.Units.{marks_of, units_of_compaction}
+use Rattle.sql_model.specs.Units.{marks_of}
 use Rattle.sql_model.specs.Listing.{ordered}
 use Rattle.sql_model.specs.Versions.{Table, Tables, Version, marked_rows_of}
 use Rattle.lake_values.specs.Texts.{same_text}
@@ -55,4 +55,4 @@ compacted_table table seq marks t = if same_text t.name table then record t { ro
 abbrev pub version_compacted : List ℕ → ℕ → List Mark → Version → Version
 version_compacted table seq marks version =
     let tables = map (compacted_table table seq marks) version.tables in
-    record { tables = tables; worn = filter (has_mark tables) version.worn; wrote = units_of_compaction table marks }
+    record { tables = tables; worn = filter (has_mark tables) version.worn; struck = marks }

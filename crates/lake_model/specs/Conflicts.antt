@@ -3,6 +3,7 @@ use Rattle.std.specs.Prelude.{ℕ, ◌+◌, ◌-◌, Bool, List, Option, find}
 use Rattle.sql_model.specs.Listing.{numbers}
 use Rattle.lake_model.specs.State.{State, last, version_at}
 use Rattle.sql_model.specs.Units.{ConflictUnit, share_unit}
+use Rattle.sql_model.specs.Versions.{wrote}
 
 -- the numbers of the commits after a snapshot, ascending
 abbrev pub commits_after : State → ℕ → List ℕ
@@ -10,7 +11,7 @@ commits_after st snapshot = numbers (snapshot + 1) (last st - snapshot)
 
 -- the commit wrote one of the units
 abbrev pub wrote_one : State → List ConflictUnit → ℕ → Bool
-wrote_one st units n = share_unit units (version_at st n).wrote
+wrote_one st units n = share_unit units (wrote (version_at st n))
 
 -- the least commit after the snapshot that wrote one of the units
 abbrev pub first_conflict : State → ℕ → List ConflictUnit → Option ℕ

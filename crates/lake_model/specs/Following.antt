@@ -114,15 +114,17 @@ abbrev pub EndsRightly : State → Statement → Noted → Type 0
 EndsRightly st x e = MatchBool (is_failed e.entry.fact && is_inside st e.entry.session) (e.ends ≡ is_commit x) (Unit {0})
 
 -- the entry is the session's, and answers the statement in the state before it
-pub record IsAnswer (n : Numbered) (before : Bool) (st : State) (e : Noted) : Type 0 where
+pub record IsAnswer
+    (told : Bool) (n : Numbered) (before : Bool) (st : State) (e : Noted) : Type 0 where
   pub session : e.entry.session ≡ n.session
-  pub right : IsRight st e.entry.session before n.statement e.entry.fact
+  pub right : IsRight told st e.entry.session before n.statement e.entry.fact
   pub ends : EndsRightly st n.statement e
 
 -- each entry answers the statement
-abbrev pub AnswerFrom : Numbered → Bool → List (State × Noted) → Type 0
-AnswerFrom n before [] = Unit {0}
-AnswerFrom n before (p ∷ ps) = IsAnswer n before p.0 p.1 × AnswerFrom n (before || is_ran p.1.entry.fact) ps
+abbrev pub AnswerFrom : Bool → Numbered → Bool → List (State × Noted) → Type 0
+AnswerFrom told n before [] = Unit {0}
+AnswerFrom told n before (p ∷ ps) =
+    IsAnswer told n before p.0 p.1 × AnswerFrom told n (before || is_ran p.1.entry.fact) ps
 
 -- where the session stands before the first of its entries
 abbrev pub situation_before : ℕ → List (State × Noted) → Situation
@@ -130,9 +132,9 @@ situation_before session [] = outside
 situation_before session (p ∷ ps) = situation p.0 session
 
 -- the entries of a statement, each with the state before it
-pub record IsRun (n : Numbered) (run : List (State × Noted)) : Type 0 where
+pub record IsRun (told : Bool) (n : Numbered) (run : List (State × Noted)) : Type 0 where
   pub kinds : IsOneOf (entry_sequences (situation_before n.session run) n.statement) (map (λ p. kind_of p.1.entry.fact) run)
-  pub answers : AnswerFrom n false run
+  pub answers : AnswerFrom told n false run
 
 abbrev pub statements_of : Step → List Numbered
 statements_of (One n) = n ∷ []
@@ -145,9 +147,9 @@ statements x = flat_map statements_of x
 abbrev pub run_at : ℕ → List (State × Noted) → List (State × Noted)
 run_at place entries = filter (λ p. p.1.entry.place == place) entries
 
--- the entries at a place of a chronicle, each with the state before it
-abbrev pub run_of : ℕ → List Noted → List (State × Noted)
-run_of place entries = run_at place (stated opening entries)
+-- the entries at a place from a state on, each with the state before it
+abbrev pub run_of : ℕ → State → List Noted → List (State × Noted)
+run_of place st entries = run_at place (stated st entries)
 
 abbrev pub places : List Numbered → List ℕ
 places ns = map (λ n. n.place) ns
@@ -165,15 +167,21 @@ abbrev pub IsInOrder : List Step → List Noted → Type 0
 IsInOrder x [] = Unit {0}
 IsInOrder x (e ∷ es) = AllByRecursion (MayFollow x e) es × IsInOrder x es
 
--- each statement's entries are one of its sequences, rightly answered; no other entry stands there; and the
--- statements stand in order
-pub record Follows (entries : List Noted) (x : List Step) : Type 0 where
-  pub runs : AllByRecursion (λ n. IsRun n (run_of n.place entries)) (statements x)
+-- From a state on each statement's entries are one of its sequences, rightly answered; no other
+-- entry stands there; and the statements stand in order.
+pub record FollowsFrom
+    (told : Bool) (st : State) (entries : List Noted) (x : List Step) : Type 0 where
+  pub runs : AllByRecursion (λ n. IsRun told n (run_of n.place st entries)) (statements x)
   pub no_others : AllByRecursion (λ e. IsOneOf (places (statements x)) e.entry.place) entries
   pub order : IsInOrder x entries
 
--- what a statement adds behind the entries that lead to st: its own entries, allowed there and rightly answered
-pub record IsAnswered (st : State) (n : Numbered) (run : List Noted) : Type 0 where
-  pub legal : IsLegalFrom st run
+-- a chronicle follows a script from the first entry on
+abbrev pub Follows : Bool → List Noted → List Step → Type 0
+Follows told entries x = FollowsFrom told opening entries x
+
+-- what a statement adds behind the entries that lead to st: its own entries, allowed there and
+-- rightly answered
+pub record IsAnswered (told : Bool) (st : State) (n : Numbered) (run : List Noted) : Type 0 where
+  pub legal : IsLegalFrom told st run
   pub own : AllByRecursion (λ e. e.entry.place ≡ n.place) run
-  pub right : IsRun n (stated st run)
+  pub right : IsRun told n (stated st run)

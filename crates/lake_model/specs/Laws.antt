@@ -11,7 +11,7 @@ use Rattle.sql_model.specs.declared.scripts.Numbered.{Numbered}
 use Rattle.sql_model.specs.declared.scripts.Step.{Step}
 use Rattle.sql_model.specs.declared.scripts.Step.TheVariants.{One, Parallel}
 use Rattle.sql_model.specs.Changes.{is_unchanged}
-use Rattle.sql_model.specs.Versions.{Tables, table_of}
+use Rattle.sql_model.specs.Versions.{Tables, table_of, wrote}
 use Rattle.lake_model.specs.State.{State, Noted, Transaction, opening, last, parts_of, version_at, transaction, view, after, state, stated}
 use Rattle.lake_model.specs.Allowed.{IsAllowedFact, IsLegal}
 use Rattle.lake_model.specs.Conflicts.{wrote_one}
@@ -25,7 +25,9 @@ pub record LeavesAlone (st : State) (e : Noted) (session : ℕ) : Type 0 where
 
 -- no session sees what another does, be it allowed or not
 abbrev pub ViewsStay : Type 0
-ViewsStay = (entries : List Noted) (e : Noted) (session : ℕ) → IsLegal entries → e.entry.session ≢ session → LeavesAlone (state entries) e session
+ViewsStay =
+    (entries : List Noted) (e : Noted) (session : ℕ) → IsLegal true entries
+    → e.entry.session ≢ session → LeavesAlone (state entries) e session
 
 -- the schema of the table of this name, if it is there
 abbrev pub schema_in : List ℕ → Tables → Option TableColumns
@@ -53,12 +55,13 @@ pub record IsSound (st : State) : Type 0 where
 
 -- every legal chronicle leads to such a state
 abbrev pub StatesAreSound : Type 0
-StatesAreSound = (entries : List Noted) → IsLegal entries → IsSound (state entries)
+StatesAreSound = (entries : List Noted) → IsLegal true entries → IsSound (state entries)
 
 -- A statement that ran and changed something counts as a part of its transaction.
 abbrev pub ChangesAreParts : Type 0
 ChangesAreParts =
-    (st : State) (session : ℕ) (said : Reply) (change : Change) → IsAllowedFact st session (fact.Ran said change)
+    (st : State) (session : ℕ) (said : Reply) (change : Change)
+    → IsAllowedFact true st session (fact.Ran said change)
     → is_unchanged change ≡ false → parts_of said ≡ 1
 
 -- the number of the commit that an entry makes of its session's transaction
@@ -78,7 +81,8 @@ commit_of (fact.Collected names floor) = None
 
 -- the transaction saw each commit before n that wrote a unit which n wrote
 abbrev pub SawEarlier : State → ℕ → Transaction → Type 0
-SawEarlier st n t = (m : ℕ) → m < n → wrote_one st (version_at st n).wrote m ≡ true → m ≤ t.snapshot
+SawEarlier st n t =
+    (m : ℕ) → m < n → wrote_one st (wrote (version_at st n)) m ≡ true → m ≤ t.snapshot
 
 -- if the entry is a commit, its transaction saw the earlier ones that wrote what it wrote
 abbrev pub CommitsFirst : State → State × Noted → Type 0
@@ -87,7 +91,9 @@ CommitsFirst st p = IfSome (commit_of p.1.entry.fact) (λ n. IsSomeAnd (transact
 -- Of two commits that wrote one unit, the later one's transaction began after the earlier: concurrent transactions that
 -- write one unit never both commit.
 abbrev pub FirstCommitterWins : Type 0
-FirstCommitterWins = (entries : List Noted) → IsLegal entries → AllByRecursion (CommitsFirst (state entries)) (stated opening entries)
+FirstCommitterWins =
+    (entries : List Noted) → IsLegal true entries
+    → AllByRecursion (CommitsFirst (state entries)) (stated opening entries)
 
 abbrev pub is_one : Step → Bool
 is_one (One n) = true
@@ -105,8 +111,8 @@ pub record IsSerial (x : List Step) : Type 0 where
 
 -- a legal chronicle that follows the script, and in which nothing failed
 pub record IsSuccess (x : List Step) (entries : List Noted) : Type 0 where
-  pub legal : IsLegal entries
-  pub follows : Follows entries x
+  pub legal : IsLegal true entries
+  pub follows : Follows true entries x
   pub unfailed : AllByRecursion (λ e. is_failed e.entry.fact ≡ false) entries
 
 -- What is printed for a script without blocks follows from the script, where nothing fails.

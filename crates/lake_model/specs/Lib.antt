@@ -1,5 +1,6 @@
 pub mod Compactions
 pub mod Names
+pub mod Told
 pub mod State
 pub mod Conflicts
 pub mod Refusals

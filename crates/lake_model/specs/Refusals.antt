@@ -24,11 +24,11 @@ existing_table table tables = if has_table table tables then Some (TableExists t
 
 -- binding refuses the statement over the tables that its session sees
 abbrev pub binding_refusal : State → ℕ → Statement → Option Refusal
-binding_refusal st session x = refused (schemas_of (view st session)) x
+binding_refusal st session x = refused (schemas_of (view st session).tables) x
 
 -- what a statement does in the session's transaction
 abbrev pub result_of : State → ℕ → Statement → Result Effect Refusal
-result_of st session x = result_over (view st session) (next_part st session) x
+result_of st session x = result_over (view st session).tables (next_part st session) x
 
 abbrev pub refusal_in : Result Effect Refusal → Option Refusal
 refusal_in (Ok effect) = None

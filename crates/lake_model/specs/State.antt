@@ -9,8 +9,8 @@ use Rattle.lake_model.specs.declared.entries.Fact.TheVariants.{Created, Began, R
 use Rattle.sql_model.specs.declared.changes.Mark.{Mark}
 use Rattle.sql_model.specs.declared.replies.Reply.{Reply}
 use Rattle.sql_model.specs.declared.replies.Reply.TheVariants as reply
-use Rattle.sql_model.specs.Versions.{Table, Tables, Version, empty_version}
-use Rattle.sql_model.specs.Changes.{no_change, pend, applied, own, version_after}
+use Rattle.sql_model.specs.Versions.{Table, Version, empty_version}
+use Rattle.sql_model.specs.Changes.{no_change, pend, own, version_after}
 use Rattle.sql_model.specs.Units.{marks_of}
 use Rattle.lake_model.specs.Compactions.{version_compacted}
 use Rattle.lake_model.specs.Names.{names_after}
@@ -30,18 +30,35 @@ pub record Transaction : Type 0 where
   pub worn : List Mark
   pub parts : ℕ
 
--- the versions from 0 on, the open transactions by session, the number of the last transaction, the floor, below which
--- no version is kept, and the names of the blobs that each version has
+-- a checkpoint: the file list of a table at a version, as a blob of this name; `begun` is the last
+-- number of a transaction that was given before its entry
+pub record Check : Type 0 where
+  pub table : List ℕ
+  pub at : ℕ
+  pub begun : ℕ
+  pub name : Name
+
+-- the versions from 0 on, the open transactions by session, the number of the last transaction, the
+-- floor, below which no version is kept, the names of the blobs that each version has, and the
+-- checkpoints in the order of their entries
 pub record State : Type 0 where
   pub versions : List Version
   pub running : List (ℕ × Transaction)
   pub last_number : ℕ
   pub floor : ℕ
   pub names : List (List Name)
+  pub checks : List Check
 
 -- no table, no transaction
 abbrev pub opening : State
-opening = record { versions = empty_version ∷ []; running = []; last_number = 0; floor = 0; names = [] ∷ [] }
+opening = record {
+  versions = empty_version ∷ [];
+  running = [];
+  last_number = 0;
+  floor = 0;
+  names = [] ∷ [];
+  checks = [];
+}
 
 -- the number of the last version
 abbrev pub last : State → ℕ
@@ -73,9 +90,13 @@ is_inside st session = option_map_or (λ t. t.explicit) (transaction st session)
 abbrev pub next_part : State → ℕ → ℕ
 next_part st session = option_map_or (λ t. t.parts + 1) (transaction st session) 1
 
--- what a session sees: its snapshot with its own changes, or no table outside a transaction
-abbrev pub view : State → ℕ → Tables
-view st session = option_map_or (λ t. applied 0 t.pending (version_at st t.snapshot).tables) (transaction st session) []
+-- what a transaction sees: its snapshot after its own change
+abbrev pub view_of : State → Transaction → Version
+view_of st t = version_after 0 t.pending t.worn (version_at st t.snapshot)
+
+-- what a session sees: what its transaction does, or no table outside one
+abbrev pub view : State → ℕ → Version
+view st session = option_map_or (view_of st) (transaction st session) empty_version
 
 -- one version more, which drops these names and adds those
 abbrev pub with_version : Version → List Name → List Name → State → State
@@ -113,7 +134,9 @@ with_part reply change t = record t {
 }
 
 abbrev pub after_created : Table → State → State
-after_created t st = with_version (record (newest st) { tables = (newest st).tables ++ t ∷ []; wrote = [] }) [] [] st
+after_created t st =
+    let created = record (newest st) { tables = (newest st).tables ++ t ∷ []; struck = [] } in
+    with_version created [] [] st
 
 abbrev pub after_began : ℕ → Bool → ℕ → ℕ → State → State
 after_began session explicit number snapshot st =
@@ -133,6 +156,12 @@ abbrev pub after_stop : ℕ → Bool → State → State
 after_stop session ends st =
     option_map_or (λ t. if t.explicit && not ends then turned session (record t { parts = t.parts + 1 }) st else ended session st) (transaction st session) st
 
+-- one checkpoint more, of a table at a version
+abbrev pub with_check : List ℕ → ℕ → Name → State → State
+with_check table at name st =
+    let check : Check = record { table = table; at = at; begun = st.last_number; name = name } in
+    record st { checks = st.checks ++ check ∷ [] }
+
 -- what an entry makes of the state
 abbrev pub after_fact : ℕ → Bool → Fact → State → State
 after_fact session ends (Created table schema seq) st = after_created (record { name = table; schema = schema; rows = [] }) st
@@ -145,7 +174,8 @@ after_fact session ends RolledBack st = ended session st
 after_fact session ends (Refused cause) st = after_stop session false st
 after_fact session ends (Failed cause) st = after_stop session ends st
 after_fact session ends (Compacted table cells marks seq added dropped) st = ended session (with_version (version_compacted table (last st + 1) marks (newest st)) dropped added st)
-after_fact session ends (Checkpointed table at name) st = ended session st
+after_fact session ends (Checkpointed table at name) st =
+    ended session (with_check table at name st)
 after_fact session ends (Collected names floor) st = record st { floor = floor }
 
 abbrev pub after : State → Noted → State

@@ -11,7 +11,7 @@ use Rattle.sql_model.specs.declared.scripts.Step.{Step}
 use Rattle.sql_model.specs.declared.statements.Statement.{Statement}
 use Rattle.sql_model.specs.declared.statements.Statement.TheVariants as statement
 use Rattle.lake_model.specs.Replies.{text_of_reply}
-use Rattle.lake_model.specs.State.{State, Noted}
+use Rattle.lake_model.specs.State.{State, Noted, opening}
 use Rattle.lake_model.specs.Following.{statements, run_of}
 
 -- a commit's answer: the reply of the write that ran, with the commit's number, or the commit itself
@@ -77,9 +77,13 @@ reply_of x run = reply x (map (λ p. p.1.entry.fact) run)
 abbrev pub run_text : Numbered → List (State × Noted) → List ℕ
 run_text n run = option_map_or (text_of_reply n.place) (reply_of n.statement run) []
 
-abbrev pub statement_text : List Noted → Numbered → List ℕ
-statement_text entries n = run_text n (run_of n.place entries)
+abbrev pub statement_text : State → List Noted → Numbered → List ℕ
+statement_text st entries n = run_text n (run_of n.place st entries)
 
--- the replies of all statements in the order of the script
+-- from a state on, the replies of all statements in the order of the script
+abbrev pub text_from : State → List Noted → List Step → List ℕ
+text_from st entries x = flat_map (statement_text st entries) (statements x)
+
+-- of a chronicle, from the first entry on
 abbrev pub text : List Noted → List Step → List ℕ
-text entries x = flat_map (statement_text entries) (statements x)
+text entries x = text_from opening entries x

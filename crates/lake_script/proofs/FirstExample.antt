@@ -29,7 +29,7 @@ look_column r c = ap (look r) (sym (rolls-Column c)) ∙ fold-roll-BoundExpr Loo
 
 -- the version that the query sees
 abbrev pub seen : Tables
-seen = view (state (take 5 entries)) 1
+seen = (view (state (take 5 entries)) 1).tables
 
 abbrev bound_query : Query
 bound_query = record {

@@ -1,5 +1,5 @@
 -- How far a run of a script has come, and what a statement more makes of it.
-use Rattle.std.proofs.Common.{◌≡◌, ℕ, zero, suc, ◌+◌, ◌*◌, ◌<◌, ◌≤◌, List, [], ◌∷◌, ◌++◌, Option, length, take, drop, get_or, refl, sym, ap, ◌∙◌, subst, arith, append_assoc}
+use Rattle.std.proofs.Common.{◌≡◌, ℕ, zero, suc, ◌+◌, ◌*◌, ◌<◌, ◌≤◌, true, List, [], ◌∷◌, ◌++◌, Option, length, take, drop, get_or, refl, sym, ap, ◌∙◌, subst, arith, append_assoc}
 use Rattle.std.specs.List.{AllByRecursion}
 use Rattle.std.specs.Io.KnownBytes.{Appends}
 use Rattle.std.proofs.lemmas.List.{append-nil, length-append, take-append-drop, take_all}
@@ -7,7 +7,7 @@ use Rattle.std.proofs.lemmas.Grind.{flat_map-append}
 use Rattle.sql_model.specs.declared.scripts.Numbered.{Numbered}
 use Rattle.sql_model.specs.declared.scripts.Step.{Step}
 use Rattle.sql_model.specs.declared.scripts.Step.TheVariants.{One}
-use Rattle.lake_model.specs.State.{Noted}
+use Rattle.lake_model.specs.State.{Noted, opening}
 use Rattle.sql_model.specs.declared.replies.Reply.{Reply}
 use Rattle.lake_model.specs.Allowed.{IsLegal}
 use Rattle.lake_model.specs.Replies.{text_of_reply}
@@ -25,8 +25,8 @@ use Rattle.lake_script.proofs.Streams.{appends_more, appends_none}
 
 -- the first `count` steps have run
 pub record Progress (before after : Option (List ℕ)) (entries : List Noted) (steps : List Step) (count : ℕ) : Type 0 where
-  pub legal : IsLegal entries
-  pub follows : Follows entries (take count steps)
+  pub legal : IsLegal true entries
+  pub follows : Follows true entries (take count steps)
   pub text : Appends before after (text entries (take count steps))
   pub numbered : AreInTurn (count + 1) (drop count steps)
   pub below : AllByRecursion (λ m. m.place < count + 1) (statements (take count steps))
@@ -89,11 +89,16 @@ module _ (before middle after : Option (List ℕ)) (old new : Lake) (steps : Lis
       let shown = subst (Appends middle after) (sym (text_of_run entries new.entries n step.reply by)) step.written in
       let P : List Noted → Type 0 = λ es. Progress before after es steps (count + 1) in
       subst P (sym by.added) record {
-        legal = legal_more entries by.run (take count steps) n so_far.follows below_now by.answered so_far.legal;
-        follows = (let Q : List Step → Type 0 = λ xs. Follows (entries ++ by.run) xs in
-            subst Q (sym done_now) (follows_more entries by.run (take count steps) n so_far.follows below_now by.answered));
+        legal = legal_more true opening entries by.run
+            (take count steps) n so_far.follows below_now by.answered so_far.legal;
+        follows = (let Q : List Step → Type 0 = λ xs. Follows true (entries ++ by.run) xs in
+            subst Q (sym done_now)
+            (follows_more true opening entries by.run
+            (take count steps) n so_far.follows below_now by.answered));
         text = (let Q : List ℕ → Type 0 = λ bytes. Appends before after bytes in
-            subst Q (sym (ap (text (entries ++ by.run)) done_now ∙ text_more entries by.run (take count steps) n so_far.follows below_now by.answered))
+            subst Q (sym (ap (text (entries ++ by.run)) done_now
+            ∙ text_more true opening entries by.run
+            (take count steps) n so_far.follows below_now by.answered))
             (appends_more before middle after _ _ so_far.text shown));
         numbered = numbered_now.2;
         below = (let Q : List Numbered → Type 0 = λ ns. AllByRecursion (λ m. m.place < count + 1 + 1) ns in
@@ -108,7 +113,8 @@ module _ (before middle after : Option (List ℕ)) (old new : Lake) (steps : Lis
   -- the text with the statement: what was written before, and its reply
   text_now : (reply : Reply) (by : IsRunBy old.entries new.entries n reply) → text (old.entries ++ by.run) (take count steps ++ One n ∷ []) ≡ text old.entries (take count steps) ++ text_of_reply n.place reply
   text_now reply by =
-      text_more old.entries by.run (take count steps) n so_far.follows below_now by.answered
+      text_more true opening old.entries by.run
+      (take count steps) n so_far.follows below_now by.answered
       ∙ ap (λ (bytes : List ℕ). text old.entries (take count steps) ++ bytes) (text_of_run old.entries new.entries n reply by)
 
   pub halts : StoppedStep ◌<◌ old new n middle after → HasHalted before after new.entries steps
@@ -123,13 +129,17 @@ module _ (before middle after : Option (List ℕ)) (old new : Lake) (steps : Lis
         last = One n;
         rest = drop (count + 1) steps;
         first = first_steps ∙ append_assoc (take count steps) (One n ∷ []) (drop (count + 1) steps);
-        legal = legal_more entries by.run (take count steps) n so_far.follows below_now by.answered so_far.legal;
-        follows = follows_more entries by.run (take count steps) n so_far.follows below_now by.answered;
+        legal = legal_more true opening entries by.run
+            (take count steps) n so_far.follows below_now by.answered so_far.legal;
+        follows = follows_more true opening entries by.run
+            (take count steps) n so_far.follows below_now by.answered;
         written = text entries (take count steps) ++ take stopped.taken reply;
         appended = appends_more before middle after _ _ so_far.text stopped.written;
         at_least = (
           take stopped.taken reply,
-          ap (λ (bytes : List ℕ). bytes ++ take stopped.taken reply) (sym (text_kept entries by.run (take count steps) n so_far.follows below_now by.answered)),
+          ap (λ (bytes : List ℕ). bytes ++ take stopped.taken reply)
+              (sym (text_kept true opening entries by.run
+              (take count steps) n so_far.follows below_now by.answered)),
         );
         less = (
           left.0,
@@ -150,8 +160,10 @@ module _ (before middle after : Option (List ℕ)) (old new : Lake) (steps : Lis
         rest = drop (count + 1) steps;
         first = first_steps;
         entries = entries ++ by.run;
-        legal = legal_more entries by.run (take count steps) n so_far.follows below_now by.answered so_far.legal;
-        follows = follows_more entries by.run (take count steps) n so_far.follows below_now by.answered;
+        legal = legal_more true opening entries by.run
+            (take count steps) n so_far.follows below_now by.answered so_far.legal;
+        follows = follows_more true opening entries by.run
+            (take count steps) n so_far.follows below_now by.answered;
         written = text entries (take count steps) ++ take stopped.taken reply;
         appended = appends_more before middle after _ _ so_far.text stopped.written;
         part = (
@@ -195,6 +207,8 @@ has_run before after entries steps count so_far h =
     let all : take count steps ≡ steps = take_all count steps h in
     record {
       legal = so_far.legal;
-      follows = (let P : List Step → Type 0 = λ xs. Follows entries xs in subst P all so_far.follows);
+      follows =
+          (let P : List Step → Type 0 = λ xs. Follows true entries xs in
+          subst P all so_far.follows);
       text = (let P : List Step → Type 0 = λ xs. Appends before after (text entries xs) in subst P all so_far.text);
     }

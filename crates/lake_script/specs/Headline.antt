@@ -1,5 +1,5 @@
 -- What a run of a script has done when it ends.
-use Rattle.std.specs.Prelude.{◌≡◌, ◌<◌, ◌≤◌, ◌⊎◌, ℕ, List, [], ◌∷◌, ◌++◌, Option, None, Ok, Err, length, IsSomeAnd}
+use Rattle.std.specs.Prelude.{◌≡◌, ◌<◌, ◌≤◌, ◌⊎◌, ℕ, true, List, [], ◌∷◌, ◌++◌, Option, None, Ok, Err, length, IsSomeAnd}
 use Rattle.std.specs.Io.KnownBytes.{Consumes, IsAtEnd, Appends}
 use Rattle.lake_outside.specs.Counts.{Rises}
 use Rattle.sql_model.specs.declared.scripts.Step.{Step}
@@ -55,8 +55,8 @@ IsProperPrefix xs ys = (y : ℕ) × (rest : List ℕ) × (ys ≡ xs ++ y ∷ res
 
 -- the chronicle is legal and follows the steps, and its text was written
 pub record HasRun (before after : Option (List ℕ)) (entries : List Noted) (steps : List Step) : Type 0 where
-  pub legal : IsLegal entries
-  pub follows : Follows entries steps
+  pub legal : IsLegal true entries
+  pub follows : Follows true entries steps
   pub text : Appends before after (text entries steps)
 
 -- the chronicle is legal and follows the steps up to one whose text was written in part: what was written
@@ -66,8 +66,8 @@ pub record HasHalted (before after : Option (List ℕ)) (entries : List Noted) (
   pub last : Step
   pub rest : List Step
   pub first : steps ≡ done ++ last ∷ rest
-  pub legal : IsLegal entries
-  pub follows : Follows entries (done ++ last ∷ [])
+  pub legal : IsLegal true entries
+  pub follows : Follows true entries (done ++ last ∷ [])
   pub written : List ℕ
   pub appended : Appends before after written
   pub at_least : IsPrefix (text entries done) written
@@ -79,8 +79,8 @@ pub record HasBegun (before after : Option (List ℕ)) (steps : List Step) : Typ
   pub rest : List Step
   pub first : steps ≡ done ++ rest
   pub entries : List Noted
-  pub legal : IsLegal entries
-  pub follows : Follows entries done
+  pub legal : IsLegal true entries
+  pub follows : Follows true entries done
   pub written : List ℕ
   pub appended : Appends before after written
   pub part : IsPrefix written (text entries done)

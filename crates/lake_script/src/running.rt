@@ -1,4 +1,4 @@
-ghost use Rattle.std.specs.Prelude.{◌≡◌, ◌^◌, ◌<◌, false, ◌≤◌, ◌⊎◌, ◌↔◌, List, ℕ, None, Some, length, map, IsSome, IsSomeAnd, OnOk, IsErrOf, vec_len};
+ghost use Rattle.std.specs.Prelude.{◌≡◌, ◌^◌, ◌<◌, true, false, ◌≤◌, ◌⊎◌, ◌↔◌, List, ℕ, None, Some, length, map, IsSome, IsSomeAnd, OnOk, IsErrOf, vec_len};
 ghost use Rattle.std.specs.String.{string_bytes};
 ghost use Rattle.lake_outside.specs.Counts.{Rises};
 ghost use Rattle.sql_model.specs.declared.scripts.Step.{Step as ScriptStep};
@@ -53,9 +53,11 @@ pub fn lake_run<S: Source, K: Sink, P: Port, G: Gate>(
 ) -> Ended<P>
     requires { 33 ≤ vec_len ports.old }
 
-    ensures legal { result.status ≡ Status.Done → IsSomeAnd result.lake (λ lake. IsLegal lake.entries) }
+    ensures legal { result.status ≡ Status.Done
+        → IsSomeAnd result.lake (λ lake. IsLegal true lake.entries) }
     ensures follows { result.status ≡ Status.Done → IsSomeAnd result.lake
-        (λ lake. ReadsScript (λ steps. Follows lake.entries steps) (S.left src.old) (S.left src.new)) }
+        (λ lake. ReadsScript (λ steps. Follows true lake.entries steps)
+        (S.left src.old) (S.left src.new)) }
     ensures text { result.status ≡ Status.Done → IsSomeAnd result.lake
         (λ lake. ReadsScript (HasRun (K.written out.old) (K.written out.new) lake.entries) (S.left src.old) (S.left src.new)) }
 

@@ -14,14 +14,14 @@ use Rattle.sql_model.specs.declared.statements.Statement.TheVariants.{Create, Be
 use Rattle.lake_model.specs.Allowed.{IsAllowedRefusal}
 use Rattle.lake_model.specs.Answers.{HasChange, IsRight}
 use Rattle.sql_model.specs.Creating.{schema_of}
-use Rattle.sql_model.specs.Changes.{applied, is_unchanged, no_change}
+use Rattle.sql_model.specs.Changes.{is_unchanged, no_change}
 use Rattle.lake_model.specs.Following.{AnswerFrom, IsAnswer, entry_sequences, is_failed, kind_of, situation}
 use Rattle.sql_model.specs.Listing.{IsOneOf}
 use Rattle.lake_model.specs.Refusals.{existing_table, refusal, binding_refusal}
 use Rattle.sql_model.specs.Binding.{refused}
-use Rattle.lake_model.specs.State.{State, Noted, Transaction, after_fact, is_inside, last, newest, state_from, stated, transaction, version_at}
+use Rattle.lake_model.specs.State.{State, Noted, Transaction, after_fact, is_inside, last, newest, state_from, stated, transaction, view_of}
 use Rattle.lake_model.specs.Text.{reply_after, reply_from}
-use Rattle.sql_model.specs.Versions.{has_table}
+use Rattle.sql_model.specs.Versions.{empty_version, has_table}
 use Rattle.sql_model.specs.Writing.{schemas_of}
 use Rattle.lake_core.specs.declared.who.Who.{Who}
 use Rattle.lake_core.specs.Facts.{answer, beginning, commitment, creation, ending}
@@ -37,7 +37,7 @@ run_of who facts = map (noted who) facts
 -- in this state these entries, a first one and more, answer the statement so
 pub record Answers (st : State) (who : Who) (x : Statement) (f : Fact) (fs : List Fact) (said : Reply) : Type 0 where
   pub row : IsOneOf (entry_sequences (situation st who.session) x) (map kind_of (f ∷ fs))
-  pub right : AnswerFrom (numbered who x) false (stated st (run_of who (f ∷ fs)))
+  pub right : AnswerFrom true (numbered who x) false (stated st (run_of who (f ∷ fs)))
   pub replies : reply_from x None (f ∷ fs) ≡ Some said
   pub few : length (run_of who (f ∷ fs)) ≤ 3
   pub goes_on : GoesOn st (state_from st (run_of who (f ∷ fs))) who.session
@@ -46,11 +46,15 @@ never_ends : (failed inside : Bool) (P : Type 0) → failed ≡ false → MatchB
 never_ends true inside P is = absurd cc
 never_ends false inside P is = tt
 
-pub answer_at : (st : State) (who : Who) (x : Statement) (before : Bool) (f : Fact) → IsRight st who.session before x f → is_failed f ≡ false → IsAnswer (numbered who x) before st (noted who f)
+pub answer_at : (st : State) (who : Who) (x : Statement) (before : Bool) (f : Fact)
+    → IsRight true st who.session before x f → is_failed f ≡ false
+    → IsAnswer true (numbered who x) before st (noted who f)
 answer_at st who x before f right fails = record { session = refl; right = right; ends = never_ends (is_failed f) (is_inside st who.session) _ fails }
 
 -- one entry
-pub one_answers : (st : State) (who : Who) (x : Statement) (f : Fact) → IsOneOf (entry_sequences (situation st who.session) x) (kind_of f ∷ []) → IsRight st who.session false x f → is_failed f ≡ false →
+pub one_answers : (st : State) (who : Who) (x : Statement) (f : Fact)
+    → IsOneOf (entry_sequences (situation st who.session) x) (kind_of f ∷ [])
+    → IsRight true st who.session false x f → is_failed f ≡ false →
     reply_after x None f ≡ Some (answer f) → GoesOn st (after_fact who.session false f st) who.session → Answers st who x f [] (answer f)
 one_answers st who x f row right fails replies goes_on = record {
   row = row;
@@ -121,10 +125,17 @@ roll_back_answers st who = one_answers st who RollBack fact.RolledBack (inl refl
 -- CREATE
 
 module _ (st : State) (table : List ℕ) (columns : List Column) (distribution : Option (List ℕ)) (session : ℕ) where
-  refusal_outside : transaction st session ≡ None → refusal st session (Create table columns distribution) ≡ option_or (existing_table table (newest st).tables) (refused [] (Create table columns distribution))
+  refusal_outside : transaction st session ≡ None
+      → refusal st session (Create table columns distribution)
+      ≡ option_or (existing_table table (newest st).tables)
+      (refused [] (Create table columns distribution))
   refusal_outside is =
-      ap (λ (o : Option Transaction). option_or (if option_map_or (λ t. t.explicit) o false then Some InTransaction else None)
-      (option_or (existing_table table (newest st).tables) (refused (schemas_of (option_map_or (λ t. applied 0 t.pending (version_at st t.snapshot).tables) o [])) (Create table columns distribution)))) is
+      let create = Create table columns distribution in
+      let seen = λ (o : Option Transaction). (option_map_or (view_of st) o empty_version).tables in
+      ap (λ (o : Option Transaction).
+      option_or (if option_map_or (λ t. t.explicit) o false then Some InTransaction else None)
+      (option_or (existing_table table (newest st).tables) (refused (schemas_of (seen o)) create)))
+      is
 
   pub refused_inside : (t : Transaction) → transaction st session ≡ Some t → IsExplicit st session → refusal st session (Create table columns distribution) ≡ Some InTransaction
   refused_inside t is explicit =

@@ -35,11 +35,13 @@ use Rattle.lake_session.proofs.States.{commitment_none, ended_none, outside_of, 
 
 -- a chronicle in two parts
 
-legal_front : (st : State) (xs ys : List Noted) → IsLegalFrom st (xs ++ ys) → IsLegalFrom st xs
+legal_front : (st : State) (xs ys : List Noted) → IsLegalFrom true st (xs ++ ys)
+    → IsLegalFrom true st xs
 legal_front st [] ys legal = tt
 legal_front st (x ∷ xs) ys legal = (legal.0, legal_front (after st x) xs ys legal.1)
 
-legal_behind : (st : State) (xs ys : List Noted) → IsLegalFrom st (xs ++ ys) → IsLegalFrom (state_from st xs) ys
+legal_behind : (st : State) (xs ys : List Noted) → IsLegalFrom true st (xs ++ ys)
+    → IsLegalFrom true (state_from st xs) ys
 legal_behind st [] ys legal = legal
 legal_behind st (x ∷ xs) ys legal = legal_behind (after st x) xs ys legal.1
 
@@ -58,7 +60,9 @@ kinds_of st who [] = refl
 kinds_of st who (f ∷ fs) = ap (λ (ks : List EntryKind). kind_of f ∷ ks) (kinds_of (after st (noted who f)) who fs)
 
 -- entries that answer a statement and were added to a lake
-pub ran_from : (old new : Lake) (who : Who) (x : Statement) (f : Fact) (fs : List Fact) (said : Reply) → new.entries ≡ old.entries ++ run_of who (f ∷ fs) → IsLegal new.entries → is_reserved new who.session ≡ false →
+pub ran_from : (old new : Lake) (who : Who) (x : Statement) (f : Fact) (fs : List Fact)
+    (said : Reply) → new.entries ≡ old.entries ++ run_of who (f ∷ fs) → IsLegal true new.entries
+    → is_reserved new who.session ≡ false →
     Answers (state_of old) who x f fs said → Ran old new (numbered who x) said
 ran_from old new who x f fs said entries legal unreserved answers =
     let run = run_of who (f ∷ fs) in
@@ -67,7 +71,7 @@ ran_from old new who x f fs said entries legal unreserved answers =
     let P : List EntryKind → Type 0 = λ kinds. IsOneOf (entry_sequences (situation st who.session) x) kinds in
     let Q : State → Type 0 = λ s. IsExplicit s who.session in
     let R : State → Type 0 = λ s. next_part s who.session ≤ next_part st who.session + 1 in
-    let S : List Noted → Type 0 = λ es. IsLegal es in
+    let S : List Noted → Type 0 = λ es. IsLegal true es in
     record {
       by = record {
         run = run;
@@ -130,8 +134,9 @@ leaves_same old new session same =
 
 pub leaves_records : (old new : Lake) (who : Who) (f : Fact) → Records old new who f → Leaves old new who.session
 leaves_records old new who f records =
-    let S : List Noted → Type 0 = λ es. IsLegal es in
-    let legal : IsLegal old.entries = legal_front opening old.entries (noted who f ∷ []) (subst S records.entries records.legal) in
+    let S : List Noted → Type 0 = λ es. IsLegal true es in
+    let legal : IsLegal true old.entries = legal_front opening old.entries (noted who f ∷ [])
+    (subst S records.entries records.legal) in
     record {
       rooms = records.others;
       transactions = λ other differ.

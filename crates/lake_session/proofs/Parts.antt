@@ -19,14 +19,17 @@ pub next_is : (st : State) (session : ℕ) (found : Option OpenTxn) (seen : Open
 next_is st session found seen is there = next_of (transaction st session) seen (sym is ∙ there)
 
 -- what holds over what is lent, as this part, holds over what the session sees, as its next part
-pub as_next_part : (P : Tables → ℕ → Type 0) (st : State) (session : ℕ) (lent : Tables) (part : ℕ) → lent ≡ view st session → part ≡ next_part st session → P lent part → P (view st session) (next_part st session)
+pub as_next_part : (P : Tables → ℕ → Type 0) (st : State) (session : ℕ) (lent : Tables) (part : ℕ)
+    → lent ≡ (view st session).tables → part ≡ next_part st session → P lent part
+    → P (view st session).tables (next_part st session)
 as_next_part P st session lent part seen next holds =
     let Q : Tables → Type 0 = λ tables. P tables part in
-    let R : ℕ → Type 0 = λ n. P (view st session) n in
+    let R : ℕ → Type 0 = λ n. P (view st session).tables n in
     subst R next (subst Q seen holds)
 
 -- so what a statement does over what is lent, as this part, is what it does in its transaction
-pub effect_inside : (x : Statement) (st : State) (session : ℕ) (lent : Tables) (part : ℕ) (effect : Effect) → lent ≡ view st session → part ≡ next_part st session
+pub effect_inside : (x : Statement) (st : State) (session : ℕ) (lent : Tables) (part : ℕ)
+    (effect : Effect) → lent ≡ (view st session).tables → part ≡ next_part st session
     → IsEffectOf x lent part effect → IsStatementEffect st session effect
 effect_inside x st session lent part effect seen next is =
     let P : Tables → ℕ → Type 0 = λ tables n. effect_of is.form tables n ≡ Ok effect in

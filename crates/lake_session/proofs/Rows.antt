@@ -49,7 +49,8 @@ entries_rows (Update table sets filter) place reads = refl
 entries_rows (Delete table filter) place reads = refl
 entries_rows x place reads = absurd cc
 
-ends_rows : (st : State) (session : ℕ) (x : Statement) → reads_rows x ≡ true → IsEndOf st session true x
+ends_rows : (st : State) (session : ℕ) (x : Statement) → reads_rows x ≡ true
+    → IsEndOf true st session true x
 ends_rows st session (Insert table rows) reads = refl
 ends_rows st session (Select q) reads = refl
 ends_rows st session (Update table sets filter) reads = refl
@@ -62,7 +63,8 @@ commits_write (Update table sets filter) write = refl
 commits_write (Delete table filter) write = refl
 commits_write x write = absurd cc
 
-conflicts_write : (st : State) (session seq : ℕ) (x : Statement) → is_write x ≡ true → HasChange st session → IsConflictOf st session true x seq
+conflicts_write : (st : State) (session seq : ℕ) (x : Statement) → is_write x ≡ true
+    → HasChange st session → IsConflictOf true st session true x seq
 conflicts_write st session seq (Insert table rows) write change = (refl, change)
 conflicts_write st session seq (Update table sets filter) write change = (refl, change)
 conflicts_write st session seq (Delete table filter) write change = (refl, change)
@@ -162,7 +164,9 @@ module _ (st : State) (who : Who) (x : Statement) (reads : reads_rows x ≡ true
     writes changed = changed_write _ _ x said change reads is changed
 
     -- with the entry that ends the transaction
-    alone_with : (f : Fact) → IsOneOf (row_sequences outside) (began ∷ ran ∷ kind_of f ∷ []) → IsRight ran_state who.session true x f → is_failed f ≡ false → reply_after x (Some said) f ≡ Some (ended_reply said (answer f)) →
+    alone_with : (f : Fact) → IsOneOf (row_sequences outside) (began ∷ ran ∷ kind_of f ∷ [])
+        → IsRight true ran_state who.session true x f → is_failed f ≡ false
+        → reply_after x (Some said) f ≡ Some (ended_reply said (answer f)) →
         transaction (after_fact who.session false f ran_state) who.session ≡ None → Answers st who x (begun st) (fact.Ran said change ∷ f ∷ []) (ended_reply said (answer f))
     unfolding ran_state
     alone_with f row right fails replies none =

@@ -1,5 +1,5 @@
 -- What a statement adds to a lake, and what it answers.
-use Rattle.std.specs.Prelude.{◌≡◌, ◌≢◌, ◌≤◌, ◌<◌, ◌+◌, ◌^◌, ℕ, false, List, [], ◌∷◌, ◌++◌, Some, Result, Ok, Err, length, map}
+use Rattle.std.specs.Prelude.{◌≡◌, ◌≢◌, ◌≤◌, ◌<◌, ◌+◌, ◌^◌, ℕ, true, false, List, [], ◌∷◌, ◌++◌, Some, Result, Ok, Err, length, map}
 use Rattle.std.specs.List.{AllByRecursion}
 use Rattle.lake_model.specs.declared.entries.Fact.{Fact}
 use Rattle.lake_model.specs.declared.entries.Fact.TheVariants as fact
@@ -23,7 +23,7 @@ use Rattle.lake_session.specs.declared.steps.Answered.TheVariants as answered
 pub record IsRunBy (old new : List Noted) (n : Numbered) (reply : Reply) : Type 0 where
   pub run : List Noted
   pub added : new ≡ old ++ run
-  pub answered : IsAnswered (state old) n run
+  pub answered : IsAnswered true (state old) n run
   pub replies : reply_of n.statement (stated (state old) run) ≡ Some reply
   pub few : length run ≤ 3
 
@@ -69,7 +69,7 @@ pub record Leaves (old new : Lake) (session : ℕ) : Type 0 where
 -- room
 pub record Records (old new : Lake) (who : Who) (f : Fact) : Type 0 where
   pub entries : new.entries ≡ old.entries ++ noted who f ∷ []
-  pub legal : IsLegal new.entries
+  pub legal : IsLegal true new.entries
   pub unreserved : is_reserved new who.session ≡ false
   pub others : (other : ℕ) → other ≢ who.session → is_reserved new other ≡ is_reserved old other
 

@@ -7,6 +7,8 @@ mod catalog_tests;
 #[cfg(test)]
 mod history_tests;
 #[cfg(test)]
+mod noting;
+#[cfg(test)]
 mod outside_tests;
 #[cfg(test)]
 mod query_tests;
@@ -22,3 +24,5 @@ mod session_tests;
 mod shelf_tests;
 #[cfg(test)]
 mod thread_tests;
+#[cfg(test)]
+mod write_tests;

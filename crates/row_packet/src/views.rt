@@ -41,6 +41,14 @@ impl<'a> PacketView<'a> {
         self.width
     }
 
+    /// The rows, in their order.
+    pub fn list(&self) -> &'a [Row]
+        ensures list { result.now ≡ self.now.rows }
+        ensures each { HaveWidth self.now.width result.now }
+    {
+        self.rows
+    }
+
     /// The values of a row, counted from 0.
     pub fn values(&self, row: u64) -> &'a [Value]
         requires { row < length self.now.rows }

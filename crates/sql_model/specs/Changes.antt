@@ -16,7 +16,7 @@ use Rattle.lake_values.specs.Rows.{value_at}
 use Rattle.sql_model.specs.Listing.{ordered, listed}
 use Rattle.sql_model.specs.Versions.{Table, Tables, Version, all_rows}
 use Rattle.lake_values.specs.Texts.{same_text}
-use Rattle.sql_model.specs.Units.{marks_of, units_of}
+use Rattle.sql_model.specs.Units.{marks_of}
 
 abbrev pub no_change : Change
 no_change = record { removed = []; added = [] }
@@ -123,5 +123,5 @@ version_after seq change worn version =
     record {
       tables = tables;
       worn = filter (has_mark tables) (version.worn ++ marks_of change.removed ++ map (as_commit seq) worn);
-      wrote = units_of change;
+      struck = marks_of change.removed;
     }

@@ -28,6 +28,6 @@ units_of_marks marks = map (λ m. whole_table m.table) marks
 abbrev pub units_of : Change → List ConflictUnit
 units_of change = units_of_marks (marks_of change.removed)
 
--- what a compaction of a table writes that replaces these marks
-abbrev pub units_of_compaction : List ℕ → List Mark → List ConflictUnit
-units_of_compaction table marks = whole_table table ∷ []
+-- what a compaction of a table writes
+abbrev pub units_of_compaction : List ℕ → List ConflictUnit
+units_of_compaction table = whole_table table ∷ []

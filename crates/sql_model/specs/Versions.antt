@@ -4,7 +4,7 @@ use Rattle.std.specs.List.{flat_map}
 use Rattle.std.specs.Option.{option_map_or}
 use Rattle.lake_values.specs.Schemas.{TableColumns}
 use Rattle.lake_values.specs.Texts.{same_text}
-use Rattle.sql_model.specs.Units.{ConflictUnit}
+use Rattle.sql_model.specs.Units.{ConflictUnit, units_of_marks}
 use Rattle.lake_values.specs.declared.values.Value.{Value}
 use Rattle.sql_model.specs.declared.changes.Mark.{Mark}
 use Rattle.sql_model.specs.declared.changes.MarkedRow.{MarkedRow}
@@ -19,15 +19,20 @@ pub record Table : Type 0 where
 abbrev pub Tables : Type 0
 Tables = List Table
 
--- a version: its tables, its worn marks, which still have a row and have lost one, and what the commit that made it
--- wrote
+-- a version: its tables, its worn marks, which still have a row and have lost one, and the marks
+-- that the commit that made it struck: of the committed rows that it removed, or of the files that
+-- it replaced
 pub record Version : Type 0 where
   pub tables : Tables
   pub worn : List Mark
-  pub wrote : List ConflictUnit
+  pub struck : List Mark
 
 abbrev pub empty_version : Version
-empty_version = record { tables = []; worn = []; wrote = [] }
+empty_version = record { tables = []; worn = []; struck = [] }
+
+-- what the commit that made the version wrote
+abbrev pub wrote : Version → List ConflictUnit
+wrote version = units_of_marks version.struck
 
 -- the table of this name, if it is there
 abbrev pub table_of : List ℕ → Tables → Option Table

@@ -1,2 +1,3 @@
-pub mod Rows
 pub mod Catalogs
+pub mod Names
+pub mod Conflicts

@@ -1,75 +1,250 @@
-ghost use Rattle.std.specs.Prelude.{◌≡◌, ◌+◌, ◌<◌, ◌≤◌, [], ◌∷◌, ◌++◌, IfSome, IfNone, OnOk, OnErr};
-ghost use Rattle.write_set_catalog.specs.Catalogs.{IsBehind};
-ghost use Rattle.write_set_catalog.specs.Rows.{HasNoConflict, IsFirstConflict};
+ghost use Rattle.std.specs.Prelude.{◌≡◌, ◌+◌, ◌<◌, ◌≤◌, ◌^◌, IfOk, IfSome, IfNone, OnOk, OnErr};
+ghost use Rattle.std.specs.Prelude.{map};
+ghost use Rattle.lake_outside.specs.Ports.{told_blob};
+ghost use Rattle.write_set_catalog.specs.Catalogs as said;
+ghost use Rattle.write_set_catalog.specs.Catalogs.{IsLastOrNext};
+ghost use Rattle.write_set_catalog.specs.Conflicts.{HasNoConflict, IsFirstConflict};
 
-use crate::CatRow;
 use crate::conflicts::{first_writer, later_rows};
-use lake_values::NoMemory;
+use crate::{CatCheck, CatRow, CatTable, RunningTxn};
+use lake_outside::Port;
+use lake_values::{NoMemory, Schema, Text};
 use sql_model::Marks;
 use std::alloc::Global;
 use std::marker::Model;
 
-/// The rows of all commits, in the order of the commits. Contracts see the rows, and how many more it has room for.
-#[derive(Debug, Drop)]
-pub struct Catalog {
-    rows: Vec<CatRow>,
+/// What a lake knows of its commits, checkpoints and open transactions without going through the
+/// chronicle. Contracts see it as plain data, and how many rows and blobs more it has room for.
+#[derive(Drop)]
+pub struct Catalog<P: Port> {
+    tables: Vec<CatTable>,
+    rows: Vec<CatRow<P>>,
+    checks: Vec<CatCheck<P>>,
+    blobs: Vec<P::Blob>,
+    running: Vec<RunningTxn>,
+    last: u64,
+    last_number: u64,
+    floor: u64,
 }
 
-impl Model for Catalog {
-    ghost use Rattle.std.specs.Prelude.{◌-◌, vec_capacity, vec_len};
-    ghost use Rattle.write_set_catalog.specs.Catalogs.{Catalogued};
-    ghost use Rattle.write_set_catalog.specs.Rows.{AreInOrder};
+impl<P: Port> Model for Catalog<P> {
+    ghost use Rattle.std.specs.Prelude.{◌-◌, map, vec_capacity, vec_len};
+    ghost use Rattle.lake_outside.specs.Ports.{told_blob};
+    ghost use Rattle.write_set_catalog.specs.Catalogs.{AreInOrder, AreUpTo, Catalogued};
 
     ghost Value = { Catalogued };
 
-    ghost view = { λ c. record { rows = c.rows.items; spare = vec_capacity c.rows - vec_len c.rows } };
+    ghost view = { λ c. record {
+      catalogue = record {
+        tables = c.tables.items;
+        rows = c.rows.items;
+        checks = c.checks.items;
+        blobs = map (told_blob P.Blob.name P.Blob.bytes) c.blobs.items;
+        running = c.running.items;
+        last = c.last;
+        last_number = c.last_number;
+        floor = c.floor;
+      };
+      spare_rows = vec_capacity c.rows - vec_len c.rows;
+      spare_blobs = vec_capacity c.blobs - vec_len c.blobs;
+    } };
 
-    ghost invariant = { λ c. AreInOrder c.rows.items };
+    ghost invariant = { λ c. AreInOrder c.rows.items × AreUpTo c.last c.rows.items };
 }
 
-impl Catalog {
-    /// The catalogue of a lake without commits.
-    pub fn empty(alloc: Global) -> Catalog
-        ensures { result.rows ≡ [] }
+impl<P: Port> Catalog<P> {
+    /// The catalogue of a lake without commits, whose last version is 0.
+    pub fn empty(alloc: Global) -> Catalog<P>
+        ensures { result.catalogue ≡ said.empty }
     {
         Catalog {
+            tables: Vec::new(alloc),
             rows: Vec::new(alloc),
+            checks: Vec::new(alloc),
+            blobs: Vec::new(alloc),
+            running: Vec::new(alloc),
+            last: 0,
+            last_number: 0,
+            floor: 0,
         }
     }
 
+    /// The tables, in the order in which they were created.
+    pub fn tables(&self) -> &[CatTable]
+        ensures { result.now ≡ self.now.catalogue.tables }
+    {
+        self.tables.as_slice()
+    }
+
     /// The rows, in the order of their commits.
-    pub fn rows(&self) -> &[CatRow]
-        ensures { result.now ≡ self.now.rows }
+    pub fn rows(&self) -> &[CatRow<P>]
+        ensures { result.now ≡ self.now.catalogue.rows }
     {
         self.rows.as_slice()
     }
 
-    /// The first commit after a snapshot that wrote what a transaction wrote that removed rows with these marks. It looks
-    /// at the rows of later commits alone.
+    /// The checkpoints, in the order in which they were written.
+    pub fn checks(&self) -> &[CatCheck<P>]
+        ensures { result.now ≡ self.now.catalogue.checks }
+    {
+        self.checks.as_slice()
+    }
+
+    /// The blobs of files and vectors.
+    pub fn blobs(&self) -> &[P::Blob]
+        ensures { map (told_blob P.Blob.name P.Blob.bytes) result.now ≡ self.now.catalogue.blobs }
+    {
+        self.blobs.as_slice()
+    }
+
+    /// The open transactions, in the order in which they began.
+    pub fn running(&self) -> &[RunningTxn]
+        ensures { result.now ≡ self.now.catalogue.running }
+    {
+        self.running.as_slice()
+    }
+
+    /// The number of the last version.
+    pub fn last(&self) -> u64
+        ensures { result ≡ self.now.catalogue.last }
+    {
+        self.last
+    }
+
+    /// The number of the last transaction that began.
+    pub fn last_number(&self) -> u64
+        ensures { result ≡ self.now.catalogue.last_number }
+    {
+        self.last_number
+    }
+
+    /// The number of the first version that can still be read.
+    pub fn floor(&self) -> u64
+        ensures { result ≡ self.now.catalogue.floor }
+    {
+        self.floor
+    }
+
+    /// The first commit after a snapshot that wrote what a transaction wrote that removed rows with
+    /// these marks. It looks at the rows of later commits alone.
     pub fn first_conflict(&self, snapshot: u64, marks: &Marks) -> Option<u64>
-        ensures found { IfSome result (IsFirstConflict snapshot marks.now self.now.rows) }
-        ensures none { IfNone result (HasNoConflict snapshot marks.now self.now.rows) }
+        ensures found { IfSome result
+            (IsFirstConflict snapshot marks.now self.now.catalogue.rows) }
+        ensures none { IfNone result (HasNoConflict snapshot marks.now self.now.catalogue.rows) }
     {
         first_writer(later_rows(self.rows.as_slice(), snapshot), marks)
     }
 
-    /// Makes room for more rows.
-    pub fn reserve(&mut self, rows: usize) -> Result<(), NoMemory>
-        ensures same { self.new.rows ≡ self.old.rows }
-        ensures room { OnOk result (rows ≤ self.new.spare) }
-        ensures err { OnErr result (self.new.spare ≡ self.old.spare) }
+    /// Puts a table that the next version creates behind the others.
+    pub fn create(&mut self, name: Text, schema: Schema) -> Result<u64, NoMemory>
+        requires { self.old.catalogue.last + 1 < 2 ^ 64 }
+        ensures ok { OnOk result (self.new.catalogue ≡ said.with_table
+            (record { name = name; schema = schema; since = self.old.catalogue.last + 1 })
+            self.old.catalogue) }
+        ensures number { IfOk result (λ seq. seq ≡ self.new.catalogue.last) }
+        ensures err { OnErr result (self.new.catalogue ≡ self.old.catalogue) }
+        ensures rows_room { self.new.spare_rows ≡ self.old.spare_rows }
+        ensures blobs_room { self.new.spare_blobs ≡ self.old.spare_blobs }
     {
-        self.rows.reserve(rows)?;
+        let since = self.last + 1;
+        self.tables.push(CatTable {
+            name,
+            schema,
+            since,
+        })?;
+        self.last = since;
+        Ok(since)
+    }
+
+    /// Begins a transaction that sees a version, and answers its number.
+    pub fn begin(&mut self, snapshot: u64) -> Result<u64, NoMemory>
+        requires { self.old.catalogue.last_number + 1 < 2 ^ 64 }
+        ensures ok { IfOk result (λ number. self.new.catalogue ≡ said.with_running
+            (record { number = number; snapshot = snapshot }) self.old.catalogue) }
+        ensures number { IfOk result (λ number. number ≡ self.old.catalogue.last_number + 1) }
+        ensures err { OnErr result (self.new.catalogue ≡ self.old.catalogue) }
+        ensures rows_room { self.new.spare_rows ≡ self.old.spare_rows }
+        ensures blobs_room { self.new.spare_blobs ≡ self.old.spare_blobs }
+    {
+        let number = self.last_number + 1;
+        self.running.push(RunningTxn { number, snapshot })?;
+        self.last_number = number;
+        Ok(number)
+    }
+
+    /// Ends a transaction. It takes no memory.
+    pub fn end(&mut self, number: u64)
+        ensures same { self.new ≡ record self.old {
+          catalogue = said.without_running number self.old.catalogue;
+        } }
+    {
+        self.running.retain(|txn| txn.number != number);
+    }
+
+    /// Puts a checkpoint behind the others.
+    pub fn checkpoint(&mut self, check: CatCheck<P>) -> Result<(), NoMemory>
+        ensures ok { OnOk result
+            (self.new.catalogue ≡ said.with_check check self.old.catalogue) }
+        ensures err { OnErr result (self.new.catalogue ≡ self.old.catalogue) }
+        ensures rows_room { self.new.spare_rows ≡ self.old.spare_rows }
+        ensures blobs_room { self.new.spare_blobs ≡ self.old.spare_blobs }
+    {
+        self.checks.push(check)?;
         Ok(())
     }
 
-    /// Puts the row of a commit behind the others. It takes no memory.
-    pub fn append(&mut self, row: CatRow)
-        requires room { 0 < self.old.spare }
-        requires order { IsBehind self.old.rows row.seq }
-        ensures rows { self.new.rows ≡ self.old.rows ++ row ∷ [] }
-        ensures room { self.old.spare ≤ self.new.spare + 1 }
+    /// Makes room for more rows.
+    pub fn reserve(&mut self, rows: u64) -> Result<(), NoMemory>
+        ensures same { self.new.catalogue ≡ self.old.catalogue }
+        ensures room { OnOk result (rows ≤ self.new.spare_rows) }
+        ensures keeps { self.old.spare_rows ≤ self.new.spare_rows }
+        ensures blobs_room { self.new.spare_blobs ≡ self.old.spare_blobs }
     {
-        self.rows.push(row).unwrap();
+        self.rows.reserve(rows as usize)?;
+        Ok(())
+    }
+
+    /// Makes room for more blobs.
+    pub fn reserve_blobs(&mut self, blobs: u64) -> Result<(), NoMemory>
+        ensures same { self.new.catalogue ≡ self.old.catalogue }
+        ensures room { OnOk result (blobs ≤ self.new.spare_blobs) }
+        ensures keeps { self.old.spare_blobs ≤ self.new.spare_blobs }
+        ensures rows_room { self.new.spare_rows ≡ self.old.spare_rows }
+    {
+        self.blobs.reserve(blobs as usize)?;
+        Ok(())
+    }
+
+    /// Puts a row of the next commit, or a further one of the last, behind the others. It takes no
+    /// memory.
+    pub fn append(&mut self, row: CatRow<P>)
+        requires room { 0 < self.old.spare_rows }
+        requires order { IsLastOrNext self.old.catalogue.last row.seq }
+        ensures row { self.new.catalogue ≡ said.with_row row self.old.catalogue }
+        ensures room { self.old.spare_rows ≤ self.new.spare_rows + 1 }
+        ensures blobs_room { self.new.spare_blobs ≡ self.old.spare_blobs }
+    {
+        self.last = row.seq;
+        self.rows.push_reserved(row);
+    }
+
+    /// Puts the blob of a file or a vector behind the others. It takes no memory.
+    pub fn keep(&mut self, blob: P::Blob)
+        requires { 0 < self.old.spare_blobs }
+        ensures blob { self.new.catalogue
+            ≡ said.with_blob (told_blob P.Blob.name P.Blob.bytes blob) self.old.catalogue }
+        ensures room { self.old.spare_blobs ≤ self.new.spare_blobs + 1 }
+        ensures rows_room { self.new.spare_rows ≡ self.old.spare_rows }
+    {
+        self.blobs.push_reserved(blob);
+    }
+
+    /// Lets no version before this one be read.
+    pub fn raise_floor(&mut self, floor: u64)
+        ensures { self.new ≡ record self.old {
+          catalogue = said.with_floor floor self.old.catalogue;
+        } }
+    {
+        self.floor = floor;
     }
 }

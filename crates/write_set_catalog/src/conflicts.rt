@@ -4,15 +4,16 @@ ghost use Rattle.std.specs.Prelude.{◌≡◌, filter, find, nat_lt};
 ghost use Rattle.std.specs.List.{list_any};
 ghost use Rattle.std.specs.Option.{option_map};
 ghost use Rattle.lake_values.specs.Texts.{same_text};
-ghost use Rattle.sql_model.specs.Units.{share_unit, units_of_marks};
-ghost use Rattle.write_set_catalog.specs.Rows.{AreInOrder, units_of_row, writes_one};
+ghost use Rattle.write_set_catalog.specs.Catalogs.{AreInOrder};
+ghost use Rattle.write_set_catalog.specs.Conflicts.{writes_one};
 
 use crate::CatRow;
+use lake_outside::Port;
 use lake_values::Text;
 use sql_model::Marks;
 
 /// The rows of the commits after a snapshot.
-pub fn later_rows(rows: &[CatRow], snapshot: u64) -> &[CatRow]
+pub fn later_rows<P: Port>(rows: &[CatRow<P>], snapshot: u64) -> &[CatRow<P>]
     requires { AreInOrder rows.now }
     ensures { result.now ≡ filter (λ row. nat_lt snapshot row.seq) rows.now }
 {
@@ -21,7 +22,7 @@ pub fn later_rows(rows: &[CatRow], snapshot: u64) -> &[CatRow]
 }
 
 /// The commit of the first row that wrote a unit of the marks.
-pub fn first_writer(rows: &[CatRow], marks: &Marks) -> Option<u64>
+pub fn first_writer<P: Port>(rows: &[CatRow<P>], marks: &Marks) -> Option<u64>
     ensures { result ≡ option_map (λ row. row.seq) (find (writes_one marks.now) rows.now) }
 {
     for row in rows {
@@ -33,7 +34,7 @@ pub fn first_writer(rows: &[CatRow], marks: &Marks) -> Option<u64>
 }
 
 /// Whether the row's commit removed a row of a table that one of the marks names.
-fn writes_one(row: &CatRow, marks: &Marks) -> bool
+fn writes_one<P: Port>(row: &CatRow<P>, marks: &Marks) -> bool
     ensures { result ≡ writes_one marks.now row.now }
 {
     !row.marks.is_empty() && name_table(marks, &row.table)

@@ -1,6 +1,6 @@
 use Rattle.std.proofs.Common.{◌≡◌, ◌+◌, ◌≤◌, ◌++◌, length, map}
 use Rattle.lake_core.specs.Rooms.{stamped}
-use Rattle.write_set_catalog.specs.Catalogs.{IsBehind}
+use Rattle.lake_core.specs.Catalogs.{IsBehind}
 use Rattle.lake_core.proofs.commits.record.Given as goal
 
 abbrev pub invariant-loop-row : goal.invariant-loop-row

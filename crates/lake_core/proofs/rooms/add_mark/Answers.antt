@@ -4,7 +4,7 @@ use Rattle.std.specs.Option.{option_copied}
 use Rattle.std.proofs.lemmas.Result.{on_ok_weaker}
 use Rattle.sql_model.specs.declared.changes.Mark.{Mark}
 use Rattle.sql_model.specs.Units.{share_unit, whole_table}
-use Rattle.write_set_catalog.specs.declared.rows.CatRow.{CatRow}
+use Rattle.lake_core.specs.declared.rows.CatRow.{CatRow}
 use Rattle.lake_core.proofs.RoomLemmas.{is_written, more_write, there_write}
 use Rattle.lake_core.proofs.rooms.add_mark.Goals as goal
 use Rattle.lake_core.proofs.rooms.add_mark.Goals.{in_default-via-in-Some+else-are_equal, in_default-via-in_default}

@@ -27,8 +27,8 @@ nothing : {X : Type 0} (ys : List X) → IsPartOf [] ys
 nothing ys = (ys, λ g. refl)
 
 -- a statement removes nothing of what session 1 sees behind so many entries
-unseen : (count : ℕ) → IsPartOf [] (all_rows (view (state (take count entries)) 1))
-unseen count = nothing (all_rows (view (state (take count entries)) 1))
+unseen : (count : ℕ) → IsPartOf [] (all_rows (view (state (take count entries)) 1).tables)
+unseen count = nothing (all_rows (view (state (take count entries)) 1).tables)
 
 pub returns-clause-legal : goal.returns-clause-legal
 returns-clause-legal c = (
@@ -38,7 +38,7 @@ returns-clause-legal c = (
     (
       record { removes = unseen 2; adds = (refl, tt); once = (All-nil _, tt); filled = (refl, tt); replies = tt },
       (
-        (refl, refl, refl, refl),
+        record { changed = refl; free = refl; next = refl; renames = refl; drops = refl },
         (
           (refl, refl, refl),
           (

@@ -14,4 +14,6 @@ refuse-requires-clause-allowed g c κs within =
     let session = c.args.who.session in
     let is = effect_refused Effect c.in-Err-Refused.field-0 c.in-Err-Refused.cause (λ cause. result_of st session c.args.statement.now ≡ Err cause) c.in-Err-Refused.field-0-is c.in-Err-Refused.ensures.refused in
     subst (λ cause. IsAllowedRefusal st session cause) (sym c.in-Err-Refused.cause-is)
-    (allowed_plain st session c.in-Err-Refused.cause (result_plain (view st session) (next_part st session) c.args.statement.now c.in-Err-Refused.cause is))
+    (allowed_plain st session c.in-Err-Refused.cause
+    (result_plain (view st session).tables
+    (next_part st session) c.args.statement.now c.in-Err-Refused.cause is))

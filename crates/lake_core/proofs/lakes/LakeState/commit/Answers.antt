@@ -129,7 +129,10 @@ invariant_of-self-2 g c =
     let seen = c.forget_unseen.ensures.versions (after st (noted c.args.who (fact.Committed c.apply-seq.result.seq [] []))) (subst A (sym c.as_slice.ensures.value) stands.open_ones) stands.history in
     consistent_at c.args.who (fact.Committed c.apply-seq.result.seq [] []) l.chronicle.entries c.push-2.new.self.entries c.entry-2.result c.push-2.ensures.entries
     (c.entry-2.ensures ∙ (λ i. record { session = session; place = c.args.who.place; fact = c.committed.ensures i })) _ _ _ _ _
-    (consistent_more _ _ _ _ _ _ _ consistent.legal (some_and (MayCommit st c.apply-seq.result.seq [] []) (transaction st session) taken.transaction taken.opened (unchanged, free, is, refl))
+    (consistent_more _ _ _ _ _ _ _ consistent.legal
+    (some_and (MayCommit true st c.apply-seq.result.seq [] [])
+    (transaction st session) taken.transaction taken.opened
+    (record { changed = unchanged; free = free; next = is; renames = refl; drops = refl }))
     (forgotten_stands _ _ c.apply-seq.new.history c.forget_unseen.new.history _ _ _ _ stands seen c.forget_unseen.ensures.rooms))
 
 pub returns-clause-entry : goal.returns-clause-entry

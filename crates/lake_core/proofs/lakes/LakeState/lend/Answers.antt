@@ -37,4 +37,4 @@ returns g c =
     let at = found_at c.args.session l.running.items _ _ c.unwrap-place.result c.as_slice.ensures.value c.place_of.ensures c.unwrap-place.ensures in
     let there = open_at c.args.session (state es).running l.running.items c.unwrap-place.result c.index.result.now c.self.invariant.stands.open_ones at c.index.ensures in
     c.of.ensures ∙ tables_seen c.args.session es l.history l.running.items l.catalog l.chronicle.spare l.last_number c.index.result.now there c.self.invariant
-    ∙ ap (λ (lake : Lake). view (state_of lake) c.args.session) c.self.view_is
+    ∙ ap (λ (lake : Lake). (view (state_of lake) c.args.session).tables) c.self.view_is

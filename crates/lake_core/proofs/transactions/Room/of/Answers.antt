@@ -2,7 +2,7 @@ use Rattle.std.proofs.Common.{◌∙◌, ◌++◌, ap, sym, List}
 use Rattle.std.proofs.lemmas.List.{length-append}
 use Rattle.sql_model.specs.declared.changes.Mark.{Mark}
 use Rattle.sql_model.specs.Units.{share_unit, units_of_marks}
-use Rattle.write_set_catalog.specs.declared.rows.CatRow.{CatRow}
+use Rattle.lake_core.specs.declared.rows.CatRow.{CatRow}
 use Rattle.lake_core.specs.Rooms.{rows_share}
 use Rattle.lake_core.proofs.RoomLemmas.{both_write, names_all}
 use Rattle.lake_core.proofs.transactions.Room.of.Goals as goal

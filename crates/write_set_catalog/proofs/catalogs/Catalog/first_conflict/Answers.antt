@@ -1,21 +1,27 @@
 use Rattle.std.proofs.Common.{◌∙◌, List, ap, filter, nat_lt, subst}
 use Rattle.std.specs.Prelude.{IfNone, IfSome}
-use Rattle.write_set_catalog.specs.declared.rows.CatRow.{CatRow}
+use Rattle.write_set_catalog.specs.Catalogs.{ToldRow}
 use Rattle.write_set_catalog.specs.Catalogs.{Catalogued}
-use Rattle.write_set_catalog.specs.Rows.{HasNoConflict, IsFirstConflict}
+use Rattle.write_set_catalog.specs.Conflicts.{HasNoConflict, IsFirstConflict}
 use Rattle.write_set_catalog.proofs.ConflictLemmas.{found_among, none_among}
 use Rattle.write_set_catalog.proofs.catalogs.Catalog.first_conflict.Goals as goal
 
 pub returns-clause-found : goal.returns-clause-found
-returns-clause-found c =
-    let P : List CatRow → Type 0 = λ rows. IfSome c.first_writer.result (IsFirstConflict c.args.snapshot c.args.marks.now rows) in
-    subst P (ap (λ (seen : Catalogued). seen.rows) c.self.view_is)
-    (found_among c.args.snapshot c.args.marks.now c.self.inside.rows.items c.later_rows.result.now c.first_writer.result c.self.invariant
-    (c.later_rows.ensures ∙ ap (filter (λ (row : CatRow). nat_lt c.args.snapshot row.seq)) c.as_slice.ensures.value) c.first_writer.ensures)
+returns-clause-found g c =
+    let P : List ToldRow → Type 0 = λ rows. IfSome c.first_writer.result
+    (IsFirstConflict c.args.snapshot c.args.marks.now rows) in
+    subst P (ap (λ (seen : Catalogued). seen.catalogue.rows) c.self.view_is)
+    (found_among c.args.snapshot c.args.marks.now c.self.inside.rows.items c.later_rows.result.now
+    c.first_writer.result c.self.invariant.0
+    (c.later_rows.ensures ∙ ap (filter (λ (row : ToldRow). nat_lt c.args.snapshot row.seq))
+    c.as_slice.ensures.value) c.first_writer.ensures)
 
 pub returns-clause-none : goal.returns-clause-none
-returns-clause-none c =
-    let P : List CatRow → Type 0 = λ rows. IfNone c.first_writer.result (HasNoConflict c.args.snapshot c.args.marks.now rows) in
-    subst P (ap (λ (seen : Catalogued). seen.rows) c.self.view_is)
-    (none_among c.args.snapshot c.args.marks.now c.self.inside.rows.items c.later_rows.result.now c.first_writer.result c.self.invariant
-    (c.later_rows.ensures ∙ ap (filter (λ (row : CatRow). nat_lt c.args.snapshot row.seq)) c.as_slice.ensures.value) c.first_writer.ensures)
+returns-clause-none g c =
+    let P : List ToldRow → Type 0 = λ rows. IfNone c.first_writer.result
+    (HasNoConflict c.args.snapshot c.args.marks.now rows) in
+    subst P (ap (λ (seen : Catalogued). seen.catalogue.rows) c.self.view_is)
+    (none_among c.args.snapshot c.args.marks.now c.self.inside.rows.items c.later_rows.result.now
+    c.first_writer.result c.self.invariant.0
+    (c.later_rows.ensures ∙ ap (filter (λ (row : ToldRow). nat_lt c.args.snapshot row.seq))
+    c.as_slice.ensures.value) c.first_writer.ensures)

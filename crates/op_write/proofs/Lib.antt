@@ -1,0 +1,5 @@
+mod Leaving
+mod Owned
+mod Pieces
+mod Staged
+pub mod Unions

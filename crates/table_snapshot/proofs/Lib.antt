@@ -1,0 +1,3 @@
+pub mod CheckpointTies
+pub mod MapChanges
+pub mod ReplaySteps

@@ -1,0 +1,4 @@
+pub mod Files
+pub mod NamedFiles
+pub mod Reading
+pub mod Spelling
