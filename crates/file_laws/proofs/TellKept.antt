@@ -322,11 +322,11 @@ view_stands c table files snap t own stands =
 
 ascend_filter : (q : FileRow → Bool) (fs : List FileRow) → Ascend fs → Ascend (filter q fs)
 ascend_filter q [] asc = tt
-ascend_filter q (f ∷ fs) asc = elim (q f) as (λ b. Ascend (cond b (f ∷ filter q fs) (filter q fs)))
-    [
-  | true ↦ (all_filter (λ g. file_cmp f g ≡ Less) q fs asc.0, ascend_filter q fs asc.1)
-  | false ↦ ascend_filter q fs asc.1
-]
+ascend_filter q (f ∷ fs) asc = elim (q f) as
+    (λ b. Ascend (cond b (f ∷ filter q fs) (filter q fs))) [
+      | true ↦ (all_filter (λ g. file_cmp f g ≡ Less) q fs asc.0, ascend_filter q fs asc.1)
+      | false ↦ ascend_filter q fs asc.1
+    ]
 
 ascend_placed : (f : FileRow) (fs : List FileRow) → AllByRecursion (λ g. is_file f.file g ≡ false)
     fs → Ascend fs → Ascend (placed file_cmp f fs)

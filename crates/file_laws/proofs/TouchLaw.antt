@@ -45,11 +45,11 @@ any_named among p (f ∷ fs) only =
     elim (among f.file) as (λ b. among f.file ≡ b → p f || list_any p fs ≡ list_any p
     (cond b (f ∷ named among fs) (named among fs))) [
       | true ↦ λ e. ap (λ (b : Bool). p f || b) (any_named among p fs only)
-      | false ↦ λ e. elim (p f) as (λ b. p f ≡ b → b || list_any p fs ≡ list_any p (named among fs))
-          [
-        | true ↦ λ h. let both : true ≡ false = sym (only f h) ∙ e in absurd cc
-        | false ↦ λ h. any_named among p fs only
-      ] refl
+      | false ↦ λ e. elim (p f) as
+          (λ b. p f ≡ b → b || list_any p fs ≡ list_any p (named among fs)) [
+            | true ↦ λ h. let both : true ≡ false = sym (only f h) ∙ e in absurd cc
+            | false ↦ λ h. any_named among p fs only
+          ] refl
     ] refl
 
 all_named : (among : Name → Bool) (p : FileRow → Bool) (files : List FileRow) →

@@ -9,6 +9,7 @@
 //! The functions below have no work to do: each states a law in its contract. The first speak of
 //! items and files alone, those from `stands_created` on of states, and those from `kept_as_it_is`
 //! on of books. A caller cites `kept_*` for what it appends, and `kept_tells` for what it reads.
+//! `kept_example` and `reader_example` compute the definitions on two worked chronicles.
 #![tactic(auto)]
 
 mod laws;
