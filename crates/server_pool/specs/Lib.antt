@@ -1,0 +1,4 @@
+pub mod Pooled
+pub mod Passes
+pub mod Placed
+pub mod Rooms
