@@ -1,1 +1,2 @@
+pub mod Borrowers
 pub mod Racers
