@@ -1,8 +1,8 @@
 //! How fast column files are written and read, scripts are read, operators work on packets, files
-//! are staged, and the items of manifests are replayed. The first word says which, and the numbers
-//! behind it how many rows, members or items: `formats N`, `scripts N`, `operators J N`,
-//! `writes N`, `files N`, or `all` for each with a thousand. Standard output says what was done,
-//! standard error how fast.
+//! are staged, the items of manifests are replayed, and threads take turns. The first word says
+//! which, and the numbers behind it how many rows, members, items or turns of a thread:
+//! `formats N`, `scripts N`, `operators J N`, `writes N`, `files N`, `turns N`, or `all` for each
+//! with a thousand. Standard output says what was done, standard error how fast.
 #![tactic(auto)]
 
 mod files;
@@ -11,6 +11,7 @@ mod operators;
 mod rates;
 mod scripts;
 mod stops;
+mod turns;
 mod writes;
 
 use crate::stops::Stop;
@@ -19,6 +20,7 @@ use std::env;
 use std::process::ExitCode;
 use std::rt::{Clock, Env};
 use std::sync::Wait;
+use std::thread::Threads;
 
 /// How many of each `all` takes.
 const FEW: u32 = 1000;
@@ -36,7 +38,7 @@ fn main(rt: HostRuntime) -> ExitCode {
 
 fn run<R>(rt: &R) -> Result<(), Stop>
 where
-    R: Print + Eprint + Clock + Env + AllocGlobal + Wait + Sync + Copy,
+    R: Print + Eprint + Clock + Env + AllocGlobal + Threads + Wait + Sync + Copy,
 {
     let mut words = env::args(rt)?.skip(1);
     let command = words.next().ok_or(Stop::Usage)?;
@@ -50,12 +52,14 @@ where
         ("files", [items]) => files::measure(rt, *items),
         ("operators", [joined, others]) => operators::measure(rt, *joined, *others),
         ("writes", [rows]) => writes::measure(rt, *rows),
+        ("turns", [turns]) => turns::measure(rt, *turns),
         ("all", []) => {
             formats::measure(rt, FEW)?;
             scripts::measure(rt, FEW)?;
             operators::measure(rt, FEW, FEW)?;
             writes::measure(rt, FEW)?;
-            files::measure(rt, FEW)
+            files::measure(rt, FEW)?;
+            turns::measure(rt, FEW)
         }
         _ => Err(Stop::Usage),
     }

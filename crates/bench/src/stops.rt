@@ -10,7 +10,7 @@ use thiserror::Error;
 /// Why a measurement stopped.
 #[derive(Debug, Drop, Error)]
 pub enum Stop {
-    #[error("say formats N, scripts N, operators J N, writes N, files N or all")]
+    #[error("say formats N, scripts N, operators J N, writes N, files N, turns N or all")]
     Usage,
     #[error("not a number from 0 to 4294967295: {0}")]
     Number(#[from] ParseIntError),

@@ -12,13 +12,14 @@ use Rattle.lake_values.specs.Names.{same_name}
 use Rattle.sql_model.proofs.Lists.{all_both, all_parts}
 use Rattle.data_cell.specs.Live.{live_rows}
 use Rattle.table_snapshot.specs.declared.files.FileRow.{FileRow}
-use Rattle.file_laws.specs.BlobLaws.{StandsOverMoreBlobs, Told, bytes_of, contents_of, is_held}
+use Rattle.file_laws.specs.BlobLaws.{StandsOverMoreBlobs, bytes_of, contents_of, is_held}
+use Rattle.lake_outside.specs.Ports.{ToldBlob}
 use Rattle.file_laws.specs.Contents.{Contents, live_of, mark_of, rows_in, with_mark}
-use Rattle.file_laws.specs.NameLaws.{names_in, vector_names}
+use Rattle.table_snapshot.specs.Files.{names_in, vector_names}
 
 -- the first blob of a name that is held
 
-pub same_bytes : (name : Name) (blobs more : List Told) → is_held blobs name ≡ true → bytes_of
+pub same_bytes : (name : Name) (blobs more : List ToldBlob) → is_held blobs name ≡ true → bytes_of
     (blobs ++ more) name ≡ bytes_of blobs name
 same_bytes name [] more e = absurd cc
 same_bytes name (b ∷ bs) more e =
@@ -30,7 +31,7 @@ same_bytes name (b ∷ bs) more e =
     ] e
 
 module _ (read_rows : List ℕ → List (List Value)) (read_gone : List ℕ → List ℕ)
-    (blobs more : List Told) (table : List ℕ) where
+    (blobs more : List ToldBlob) (table : List ℕ) where
   abbrev old : Contents
   old = contents_of read_rows read_gone blobs
 

@@ -5,7 +5,7 @@ use Rattle.std.proofs.lemmas.List.{append-nil}
 use Rattle.std.proofs.lemmas.List.Elements.{filter-append}
 use Rattle.std.specs.Prelude.{nat_le}
 use Rattle.std.specs.List.{AllByRecursion}
-use Rattle.lake_model.specs.State.{Transaction, ended, last, opened_by, transaction}
+use Rattle.lake_model.specs.State.{State, Transaction, ended, last, opened_by, transaction}
 use Rattle.lake_values.specs.Texts.{same_text}
 use Rattle.sql_model.proofs.Lists.{all_append, all_both, all_filter, all_weaker}
 use Rattle.sql_model.proofs.Removal.{filter_none}
@@ -39,6 +39,15 @@ checks_stay rows more checks last at new stands =
 number_sym : (m n : ℕ) → nat_eq m n ≡ true → nat_eq n m ≡ true
 number_sym m n e = grind arith
 
+-- a session that ended has no transaction
+pub not_ended : (session other : ℕ) (st : State) (u : Transaction) → transaction (ended session st)
+    other ≡ Some u → session ≡ other → ⊥
+not_ended session other st u is same =
+    let none : transaction (ended session st) other ≡ None = ap (opened_by other)
+    (ap (λ (n : ℕ). filter (λ o. not (nat_eq o.0 n)) st.running) same) ∙ none_left other st.running
+    in
+    absurd cc
+
 pub numbers_committed : NumbersCommitted
 numbers_committed rows more items st session t numbers opened own adds new = record {
   apart = all_append
@@ -58,7 +67,7 @@ numbers_committed rows more items st session t numbers opened own adds new = rec
       let was = still_open session other st.running u is in
       all_append (λ r. nat_eq r.txn u.number ≡ false) rows more (numbers.open_ones other u was)
       (all_weaker more (λ r mine. differ r.txn t.number u.number mine.1
-      (λ same. not_ended other u is (own session other t u opened was same))) new);
+      (λ same. not_ended session other st u is (own session other t u opened was same))) new);
   own_adds = all_append (λ r. AddsOwn r.txn r.items) rows more numbers.own_adds (all_weaker more (λ
       r mine. subst (λ (n : ℕ). AddsOwn n r.items) (sym mine.1)
       (subst (λ (is : List Item). AddsOwn t.number is) (sym mine.2) adds)) new);
@@ -70,11 +79,3 @@ numbers_committed rows more items st session t numbers opened own adds new = rec
     differ : (a n m : ℕ) → a ≡ n → (nat_eq n m ≡ true → ⊥) → nat_eq a m ≡ false
     differ a n m is off = ap (λ (k : ℕ). nat_eq k m) is ∙ elim (nat_eq n m) as
         (λ b. nat_eq n m ≡ b → b ≡ false) [ true ↦ λ e. absurd (off e) | false ↦ λ e. refl ] refl
-
-    not_ended : (other : ℕ) (u : Transaction) → transaction (ended session st) other ≡ Some u →
-        session ≡ other → ⊥
-    not_ended other u is same =
-        let none : transaction (ended session st) other ≡ None = ap (opened_by other)
-        (ap (λ (n : ℕ). filter (λ o. not (nat_eq o.0 n)) st.running) same) ∙ none_left other
-        st.running in
-        absurd cc

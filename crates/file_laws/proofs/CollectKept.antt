@@ -23,7 +23,7 @@ use Rattle.table_snapshot.specs.Files.{item_table, items_of, replay}
 use Rattle.file_laws.specs.Kept.{Agrees, Book, HasBlobs, IsOwnItem, shown, shown_row, writes}
 use Rattle.file_laws.specs.KeptLaws.{AsksOfCheck, HasAllBut, KeptCheck, KeptCollected, SameAt}
 use Rattle.file_laws.specs.KeptLaws.{with_checkpoint}
-use Rattle.file_laws.specs.NameLaws.{names_in, vector_names}
+use Rattle.table_snapshot.specs.Files.{names_in, vector_names}
 use Rattle.file_laws.specs.Stands.{Checkpoint, files_at}
 use Rattle.file_laws.specs.Touching.{is_name_of}
 use Rattle.file_laws.proofs.CommitKept.{opened_runs}

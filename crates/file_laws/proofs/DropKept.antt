@@ -15,7 +15,7 @@ use Rattle.table_snapshot.specs.Files.{items_of, replay}
 use Rattle.file_laws.specs.Catalogues.{gives}
 use Rattle.file_laws.specs.Kept.{Agrees, Book, shown, shown_row}
 use Rattle.file_laws.specs.KeptLaws.{AreRows, IsRowOf, KeptDrops}
-use Rattle.file_laws.specs.NameLaws.{names_in}
+use Rattle.table_snapshot.specs.Files.{names_in}
 use Rattle.file_laws.specs.Stands.{files_at}
 use Rattle.file_laws.specs.Touching.{Row}
 use Rattle.file_laws.proofs.NameKept.{among_self}

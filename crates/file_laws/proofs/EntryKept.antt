@@ -30,7 +30,7 @@ use Rattle.lake_model.specs.Laws.{IsSound}
 use Rattle.write_set_catalog.specs.Names.{NamesRow}
 use Rattle.file_laws.specs.Catalogues.{gives, has_name, is_running}
 use Rattle.file_laws.specs.Collector.{checks_of}
-use Rattle.file_laws.specs.Commits.{IsCommit}
+use Rattle.file_laws.specs.Commits.{HaveNames, IsCommit}
 use Rattle.file_laws.specs.Contents.{Contents}
 use Rattle.table_snapshot.specs.Files.{items_of}
 use Rattle.file_laws.specs.Kept.{Agrees, Book, HasBlobs, IsKept, Follows, IsNext, NamesAgree}
@@ -97,7 +97,7 @@ fact_checks session ends (Compacted table cells marks seq added dropped) st =
 fact_checks session ends (Checkpointed table at name) st = refl
 fact_checks session ends (Collected names floor) st = sym (append-nil st.checks)
 
-checks_next : (entries : List Noted) (e : Noted) → (state (entries ++ e ∷ [])).checks ≡
+pub checks_next : (entries : List Noted) (e : Noted) → (state (entries ++ e ∷ [])).checks ≡
     (state entries).checks ++ checks_of (state entries) e.entry.fact
 checks_next entries e =
     ap (λ (st : State). st.checks) (state_next entries e) ∙ fact_checks e.entry.session e.ends
@@ -139,58 +139,63 @@ kept_next k k' entries e f more kept next checks rows running step =
       };
     }
 
-same_open : (st st' : State) → ((session : ℕ) (t : Transaction) → transaction st' session ≡ Some t
+pub same_open : (st st' : State) →
+    ((session : ℕ) (t : Transaction) → transaction st' session ≡ Some t
     → transaction st session ≡ Some t) → OpenFrom st st'
 same_open st st' from session t is = inl (t, from session t is, refl)
 
 -- a new table
 
 -- a version without rows has the names of the one before
+module _ (k : Book) (st : State) (v : Version) (sound : IsSound st)
+    (within : AllByRecursion (λ r. r.seq ≤ last st) k.rows) (have : HaveNames st (shown k st)) where
+  abbrev next_state : State
+  next_state = with_version v [] [] st
+
+  longer : last next_state ≡ last st + 1
+  longer = omega (arith, length-append st.versions (v ∷ []), sound.some_version)
+
+  or_false : (a b : Bool) → a ≡ b → (a || false) ≡ ((b && true) || false)
+  or_false a true e = ap (λ (x : Bool). x || false) e
+  or_false a false e = ap (λ (x : Bool). x || false) e
+
+  and_true : (rs : List NamesRow) (name : Name) → list_any
+      (λ r. gives (shown k st) (last st) name r && true) rs ≡ list_any
+      (gives (shown k st) (last st) name) rs
+  and_true [] name = refl
+  and_true (r ∷ rs) name = elim (gives (shown k st) (last st) name r) as (λ b.
+      ((b && true) || list_any (λ r. gives (shown k st) (last st) name r && true) rs) ≡
+      (b || list_any (gives (shown k st) (last st) name) rs))
+      [ true ↦ refl | false ↦ and_true rs name ]
+
+  no_rows : IsCommit (shown k st) [] [] []
+  no_rows = record {
+    behind = all_map (λ r. r.seq ≤ last st) shown_row k.rows within;
+    next = tt;
+    names = λ name. or_false
+        (list_any (λ r. gives (shown k st) (last st) name r && true) (map shown_row k.rows))
+        (has_name (shown k st) (last st) name) (and_true (map shown_row k.rows) name);
+  }
+
+  pub names_with_none : HaveNames next_state (shown k next_state)
+  names_with_none version name low high =
+      let more = commits_stand st (shown k st) [] v [] [] sound.counted sound.some_version refl
+      sound.floor no_rows have version name low (omega (arith, high, longer)) in
+      ap (λ (rs : List NamesRow). has_name
+      (record (shown k st) { rows = rs; last = last st + 1 }) version name)
+      (sym (append-nil (map shown_row k.rows))) ∙ more
+
 no_names : (k : Book) (st : State) (v : Version) → IsSound st → Agrees k st → NamesAgree
     (record k { rows = k.rows ++ [] }) (with_version v [] [] st)
 no_names k st v sound agrees =
-    let same = append-nil k.rows in
-    subst (λ (rs : List Row). NamesAgree (record k { rows = rs }) st') (sym same) (record {
+    subst (λ (rs : List Row). NamesAgree (record k { rows = rs }) (with_version v [] [] st))
+    (sym (append-nil k.rows)) (record {
       once = agrees.names.once;
       turns = agrees.names.turns;
       own = agrees.names.own;
       one_table = agrees.names.one_table;
-      versions = λ version name low high.
-          let more = commits_stand st (shown k st) [] v [] [] sound.counted sound.some_version refl
-          sound.floor commit agrees.names.versions version name low
-          (omega (arith, high, longer)) in
-          ap (λ (rs : List NamesRow). has_name
-          (record (shown k st) { rows = rs; last = last st + 1 }) version name)
-          (sym (append-nil (map shown_row k.rows))) ∙ more;
+      versions = names_with_none k st v sound agrees.stands.within agrees.names.versions;
     })
-  where
-    st' : State
-    st' = with_version v [] [] st
-
-    longer : last st' ≡ last st + 1
-    longer = omega (arith, length-append st.versions (v ∷ []), sound.some_version)
-
-    or_false : (a b : Bool) → a ≡ b → (a || false) ≡ ((b && true) || false)
-    or_false a true e = ap (λ (x : Bool). x || false) e
-    or_false a false e = ap (λ (x : Bool). x || false) e
-
-    and_true : (rs : List NamesRow) (name : Name) → list_any
-        (λ r. gives (shown k st) (last st) name r && true) rs ≡ list_any
-        (gives (shown k st) (last st) name) rs
-    and_true [] name = refl
-    and_true (r ∷ rs) name = elim (gives (shown k st) (last st) name r) as (λ b.
-        ((b && true) || list_any (λ r. gives (shown k st) (last st) name r && true) rs) ≡
-        (b || list_any (gives (shown k st) (last st) name) rs))
-        [ true ↦ refl | false ↦ and_true rs name ]
-
-    commit : IsCommit (shown k st) [] [] []
-    commit = record {
-      behind = all_map (λ r. r.seq ≤ last st) shown_row k.rows agrees.stands.within;
-      next = tt;
-      names = λ name. or_false
-          (list_any (λ r. gives (shown k st) (last st) name r && true) (map shown_row k.rows))
-          (has_name (shown k st) (last st) name) (and_true (map shown_row k.rows) name);
-    }
 
 pub created_agrees : (k : Book) (st : State) (t : Table) → IsSound st → t.rows ≡ [] → Agrees k st →
     Agrees k (after_created t st)
@@ -337,7 +342,7 @@ kept_as_it_is k entries e f kept leaves next =
 
 -- a beginning
 
-same_itself : (n : ℕ) → nat_eq n n ≡ true
+pub same_itself : (n : ℕ) → nat_eq n n ≡ true
 same_itself n = grind arith
 
 -- no file has a number that wasn't given

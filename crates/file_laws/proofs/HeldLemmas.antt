@@ -5,18 +5,20 @@ use Rattle.std.specs.Prelude.{find}
 use Rattle.std.specs.Option.{option_map_or}
 use Rattle.lake_values.specs.declared.names.Name.{Name}
 use Rattle.lake_values.specs.Names.{is_among, same_name}
-use Rattle.file_laws.specs.BlobLaws.{Told, bytes_of, is_held}
+use Rattle.file_laws.specs.BlobLaws.{bytes_of, is_held}
+use Rattle.lake_outside.specs.Ports.{ToldBlob}
 use Rattle.file_laws.specs.KeptLaws.{BlobsAreHeld, without_blobs}
 use Rattle.file_laws.proofs.BlobLemmas.{same_bytes}
 use Rattle.file_laws.proofs.ReplayLemmas.{name_tells}
 use Rattle.file_laws.proofs.Some.{any_front}
 
 module _ (names : List Name) (name : Name) (free : is_among name names ≡ false) where
-  stays : (b : Told) → same_name name b.name ≡ true → not (is_among b.name names) ≡ true
+  stays : (b : ToldBlob) → same_name name b.name ≡ true → not (is_among b.name names) ≡ true
   stays b e = ap (λ (n : Name). not (is_among n names)) (sym (name_tells name b.name e)) ∙ ap not
       free
 
-  bytes_stay : (blobs : List Told) → bytes_of (without_blobs names blobs) name ≡ bytes_of blobs name
+  bytes_stay : (blobs : List ToldBlob) →
+      bytes_of (without_blobs names blobs) name ≡ bytes_of blobs name
   bytes_stay [] = refl
   bytes_stay (b ∷ bs) = elim (same_name name b.name) as (λ x. same_name name b.name ≡ x → bytes_of
       (cond (not (is_among b.name names)) (b ∷ without_blobs names bs) (without_blobs names bs))
@@ -38,7 +40,8 @@ module _ (names : List Name) (name : Name) (free : is_among name names ≡ false
             ]
       ] refl
 
-  held_stays : (blobs : List Told) → is_held (without_blobs names blobs) name ≡ is_held blobs name
+  held_stays : (blobs : List ToldBlob) →
+      is_held (without_blobs names blobs) name ≡ is_held blobs name
   held_stays [] = refl
   held_stays (b ∷ bs) = elim (same_name name b.name) as (λ x. same_name name b.name ≡ x → is_held
       (cond (not (is_among b.name names)) (b ∷ without_blobs names bs) (without_blobs names bs))

@@ -34,7 +34,7 @@ use Rattle.table_snapshot.specs.Files.{with_vector, without_file}
 use Rattle.file_laws.specs.Kept.{Agrees, Book, HasBlobs, HasFile, IsOwnItem, IsOwnName, NamesAgree}
 use Rattle.file_laws.specs.Kept.{OwnsItems, TellsMarks, has_row_at, marks_of_table, unit_of}
 use Rattle.file_laws.specs.KeptLaws.{HasMore, SameAt}
-use Rattle.file_laws.specs.NameLaws.{vector_names}
+use Rattle.table_snapshot.specs.Files.{vector_names}
 use Rattle.file_laws.specs.Standing.{FilesStand}
 use Rattle.file_laws.specs.Stands.{Stands, files_at, rows_of, rows_to}
 use Rattle.file_laws.specs.StandsLaws.{NumbersStand}

@@ -36,3 +36,7 @@ pub mod HeldLemmas
 pub mod Example
 pub mod DropKept
 pub mod ReaderExample
+pub mod TimesLemmas
+pub mod NoteLemmas
+pub mod NoteKept
+pub mod LastRows

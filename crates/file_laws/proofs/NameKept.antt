@@ -28,7 +28,8 @@ use Rattle.file_laws.specs.Kept.{Agrees, AreLater, Book, HaveOneTable, NamesAgre
 use Rattle.file_laws.specs.Kept.{shown_row, writes}
 use Rattle.file_laws.specs.KeptLaws.{AreRows, HasOne, IsRowOf}
 use Rattle.file_laws.specs.NameLaws as names
-use Rattle.file_laws.specs.NameLaws.{GainsAndLoses, NamesInTurn, names_in, vector_names}
+use Rattle.table_snapshot.specs.Files.{names_in, vector_names}
+use Rattle.file_laws.specs.NameLaws.{GainsAndLoses, NamesInTurn}
 use Rattle.file_laws.specs.Stands.{files_at, rows_of, rows_to}
 use Rattle.file_laws.specs.Touching.{Row, is_name_of, replay_rows}
 use Rattle.file_laws.proofs.CommitLemmas.{commits_stand, owned_commits}

@@ -5,7 +5,8 @@ use Rattle.lake_values.specs.declared.names.Name.{Name}
 use Rattle.lake_values.specs.Names.{is_among}
 use Rattle.table_snapshot.specs.declared.files.FileRow.{FileRow}
 use Rattle.table_snapshot.specs.Files.{items_of, replay}
-use Rattle.file_laws.specs.NameLaws.{NamesAreByRows, NamesInTurn, drops, has_name, names_in}
+use Rattle.table_snapshot.specs.Files.{names_in}
+use Rattle.file_laws.specs.NameLaws.{NamesAreByRows, NamesInTurn, drops, has_name}
 use Rattle.file_laws.specs.Touching.{Row, replay_rows}
 
 step : (h n f d : Bool) → (h || n && not d) ≡

@@ -1,5 +1,6 @@
 -- What the soundness of a state says of its open transactions and its tables.
-use Rattle.std.proofs.Common.{◌≡◌, ◌≢◌, ℕ, true, false, nat_eq, List, [], ◌∷◌, ◌++◌, Option, None}
+use Rattle.std.proofs.Common.{◌≡◌, ◌≢◌, ℕ, Bool, true, false, nat_eq, List, [], ◌∷◌, ◌++◌, Option}
+use Rattle.std.proofs.Common.{None}
 use Rattle.std.proofs.Common.{Some, map, refl, sym, ap, ◌∙◌, if◌then◌else◌}
 use Rattle.std.proofs.lemmas.Bool.{eqb-true}
 use Rattle.std.proofs.lemmas.List.Elements.{recursion_from_All}
@@ -77,12 +78,16 @@ keeps_tables old new stays table known =
           ] refl has
     ] refl known
 
--- a legal chronicle and one entry more
+-- a legal chronicle and one entry more, as far as is told
+pub told_parts : (told : Bool) (st : State) (xs ys : List Noted) → IsLegalFrom told st (xs ++ ys) →
+    IsLegalFrom told st xs × IsLegalFrom told (state_from st xs) ys
+told_parts told st [] ys legal = (tt, legal)
+told_parts told st (x ∷ xs) ys legal =
+    let rest = told_parts told (after st x) xs ys legal.1 in ((legal.0, rest.0), rest.1)
+
 pub legal_parts : (st : State) (xs ys : List Noted) → IsLegalFrom true st (xs ++ ys) → IsLegalFrom
     true st xs × IsLegalFrom true (state_from st xs) ys
-legal_parts st [] ys legal = (tt, legal)
-legal_parts st (x ∷ xs) ys legal =
-    let rest = legal_parts (after st x) xs ys legal.1 in ((legal.0, rest.0), rest.1)
+legal_parts st xs ys legal = told_parts true st xs ys legal
 
 pub state_next : (entries : List Noted) (e : Noted) → state (entries ++ e ∷ []) ≡ after
     (state entries) e

@@ -193,7 +193,8 @@ module _ (unit : Mark → ConflictUnit) (unit_self : (u : ConflictUnit) → same
       (files_at rows (last st) table) (new.each table)
 
   -- the files that the transaction's items name are as they were
-  kept : (table : List ℕ) → (named (is_touched (own table)) (files_at rows (last st) table) ≡ named
+  pub kept : (table : List ℕ) →
+      (named (is_touched (own table)) (files_at rows (last st) table) ≡ named
       (is_touched (own table)) (files_at rows t.snapshot table))
       × MayTouch t.number table (marks_of (removed table)) (files_at rows (last st) table)
       (own table)

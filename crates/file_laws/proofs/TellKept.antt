@@ -36,7 +36,8 @@ use Rattle.table_snapshot.specs.Files.{with_vector, without_file}
 use Rattle.file_laws.specs.Kept.{Agrees, AreLater, Ascend, Book, adds, shown, shown_row}
 use Rattle.file_laws.specs.KeptLaws.{KeptTells}
 use Rattle.file_laws.specs.NameLaws as names
-use Rattle.file_laws.specs.NameLaws.{NamesInTurn, names_in}
+use Rattle.table_snapshot.specs.Files.{names_in}
+use Rattle.file_laws.specs.NameLaws.{NamesInTurn}
 use Rattle.file_laws.specs.Standing.{FilesStand}
 use Rattle.file_laws.specs.Stands.{added_of, files_at, files_from, removed_of, rows_behind, rows_of}
 use Rattle.file_laws.specs.Stands.{rows_to, Checkpoint}

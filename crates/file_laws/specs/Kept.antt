@@ -23,7 +23,8 @@ use Rattle.file_laws.specs.Collector.{Gains, StandsNames, names_at, open_of}
 use Rattle.file_laws.specs.Commits.{HaveNames}
 use Rattle.file_laws.specs.Contents.{Contents}
 use Rattle.table_snapshot.specs.Files.{file_cmp, items_of, replay}
-use Rattle.file_laws.specs.NameLaws.{NamesInTurn, names_in, vector_names}
+use Rattle.table_snapshot.specs.Files.{names_in, vector_names}
+use Rattle.file_laws.specs.NameLaws.{NamesInTurn}
 use Rattle.file_laws.specs.Pends.{HaveOwnParts}
 use Rattle.file_laws.specs.Standing.{FilesStand}
 use Rattle.file_laws.specs.Stands.{Checkpoint, Stands, files_at, files_from, rows_of}

@@ -24,7 +24,8 @@ use Rattle.lake_values.specs.Texts.{same_text}
 use Rattle.manifest_block.specs.declared.items.Item.{Item}
 use Rattle.manifest_block.specs.declared.items.Item.TheVariants.{Add, Remove, SetVector}
 use Rattle.table_snapshot.specs.declared.files.FileRow.{FileRow}
-use Rattle.file_laws.specs.BlobLaws.{Told, contents_of}
+use Rattle.file_laws.specs.BlobLaws.{contents_of}
+use Rattle.lake_outside.specs.Ports.{ToldBlob}
 use Rattle.file_laws.specs.Compacting.{IsCellMerge, Merge, items_of_merges}
 use Rattle.file_laws.specs.Contents.{Contents, marked_live}
 use Rattle.table_snapshot.specs.Files.{items_of, replay}
@@ -309,15 +310,15 @@ KeptEmpty = (c : Contents) → IsKept (empty_book c) []
 -- these.
 
 -- the blobs but those of these names
-abbrev pub without_blobs : List Name → List Told → List Told
+abbrev pub without_blobs : List Name → List ToldBlob → List ToldBlob
 without_blobs names blobs = filter (λ b. not (is_among b.name names)) blobs
 
 -- more blobs have more, and without some names they have all but these
 pub record BlobsHold
-    (read_rows : List ℕ → List (List Value)) (read_gone : List ℕ → List ℕ) (blobs : List Told)
+    (read_rows : List ℕ → List (List Value)) (read_gone : List ℕ → List ℕ) (blobs : List ToldBlob)
     : Type 0 where
   pub more :
-      (new : List Told)
+      (new : List ToldBlob)
       → HasMore (contents_of read_rows read_gone blobs)
       (contents_of read_rows read_gone (blobs ++ new))
   pub less :
@@ -328,5 +329,5 @@ pub record BlobsHold
 -- Whatever reads the blobs, this holds.
 abbrev pub BlobsAreHeld : Type 0
 BlobsAreHeld =
-    (read_rows : List ℕ → List (List Value)) (read_gone : List ℕ → List ℕ) (blobs : List Told)
+    (read_rows : List ℕ → List (List Value)) (read_gone : List ℕ → List ℕ) (blobs : List ToldBlob)
     → BlobsHold read_rows read_gone blobs

@@ -14,6 +14,7 @@ pub mod MergeLaw
 pub mod Compacting
 pub mod Kept
 pub mod KeptLaws
+pub mod Noting
 pub mod Catalogues
 pub mod Collector
 pub mod Commits

@@ -1,21 +1,12 @@
 -- The names that a table has by the rows of a catalogue.
-use Rattle.std.specs.Prelude.{◌≡◌, ℕ, Bool, false, ◌&&◌, ◌||◌, not, List, [], ◌∷◌, Option, None}
-use Rattle.std.specs.Prelude.{Some}
-use Rattle.std.specs.List.{flat_map, list_any}
+use Rattle.std.specs.Prelude.{◌≡◌, Bool, false, ◌&&◌, ◌||◌, not, List, [], ◌∷◌}
+use Rattle.std.specs.List.{list_any}
 use Rattle.lake_values.specs.declared.names.Name.{Name}
 use Rattle.lake_values.specs.Names.{is_among}
 use Rattle.table_snapshot.specs.declared.files.FileRow.{FileRow}
 use Rattle.table_snapshot.specs.Files.{items_of, replay}
+use Rattle.table_snapshot.specs.Files.{names_in}
 use Rattle.file_laws.specs.Touching.{Row, replay_rows}
-
--- the name of a vector, if there is one
-abbrev pub vector_names : Option (Name × ℕ) → List Name
-vector_names None = []
-vector_names (Some v) = v.0 ∷ []
-
--- the names of the files and their vectors
-abbrev pub names_in : List FileRow → List Name
-names_in files = flat_map (λ f. f.file ∷ vector_names f.vector) files
 
 -- a row drops the name
 abbrev pub drops : Name → List Row → Bool

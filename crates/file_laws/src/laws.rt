@@ -24,6 +24,8 @@ ghost use Rattle.file_laws.specs.KeptLaws.{BlobsAreHeld, KeptAsItIs, KeptBegan, 
 ghost use Rattle.file_laws.specs.KeptLaws.{KeptCollected, KeptCommit, KeptCompacted, KeptDrops};
 ghost use Rattle.file_laws.specs.KeptLaws.{KeptEmpty, KeptOverBlobs, KeptQuery, KeptTells};
 ghost use Rattle.file_laws.specs.KeptLaws.{KeptWrite};
+ghost use Rattle.file_laws.specs.Noting.{NotedAsItIs, NotedBegan, NotedCommit, NotedEmpty};
+ghost use Rattle.file_laws.specs.Noting.{NotedQuery, NotedWrite, RowsAtLast};
 
 /// What a transaction's items make of the files of its snapshot, they make of the files of a later
 /// version in which the files that they name are as they were.
@@ -188,6 +190,42 @@ pub fn kept_check()
 /// The blobs that a collection gives up may go.
 pub fn kept_collected()
     ensures { KeptCollected }
+{}
+
+/// At first nothing is noted, whatever the ports tell. So it is with the laws that follow.
+pub fn noted_empty()
+    ensures { NotedEmpty }
+{}
+
+/// A new table, an end, a conflict, a refusal and a failure leave what is noted.
+pub fn noted_as_it_is()
+    ensures { NotedAsItIs }
+{}
+
+/// A transaction begins without items.
+pub fn noted_began()
+    ensures { NotedBegan }
+{}
+
+/// A query writes nothing.
+pub fn noted_query()
+    ensures { NotedQuery }
+{}
+
+/// A write gives its transaction the items of its part.
+pub fn noted_write()
+    ensures { NotedWrite }
+{}
+
+/// A commit gives the catalogue a row for each table that it changed.
+pub fn noted_commit()
+    ensures { NotedCommit }
+{}
+
+/// Rows of a commit that were made for its snapshot are right at the last version, where no commit
+/// between wrote what it wrote.
+pub fn rows_at_last()
+    ensures { RowsAtLast }
 {}
 
 /// What a kept book tells of the versions, to a collector, and of each commit.

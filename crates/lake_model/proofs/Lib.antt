@@ -9,3 +9,4 @@ pub mod RightAnswers
 pub mod RightRuns
 pub mod OneText
 pub mod UpkeepExample
+pub mod EndedNames

@@ -64,7 +64,7 @@ module _ {X Y : Type 0} (f : X → Y) where
       ]
 
 -- the transactions of other sessions
-abbrev others : ℕ → List (ℕ × Transaction) → List (ℕ × Transaction)
+abbrev pub others : ℕ → List (ℕ × Transaction) → List (ℕ × Transaction)
 others session os = filter (λ o. not (nat_eq o.0 session)) os
 
 other_sessions : (session : ℕ) (os : List (ℕ × Transaction)) → AllByRecursion (λ o. o.0 ≢ session) (others session os)
@@ -75,7 +75,7 @@ other_sessions session (o ∷ os) =
       | false ↦ λ is. ((λ same. let other : true ≡ false = sym (eq-eqb o.0 session same) ∙ is in cc), other_sessions session os)
     ] refl
 
-other_numbers : (session : ℕ) (os : List (ℕ × Transaction)) (t : Transaction) → AllDistinct (map (λ o. o.1.number) os) → opened_by session os ≡ Some t → AllByRecursion (λ o. o.1.number ≢ t.number) (others session os)
+pub other_numbers : (session : ℕ) (os : List (ℕ × Transaction)) (t : Transaction) → AllDistinct (map (λ o. o.1.number) os) → opened_by session os ≡ Some t → AllByRecursion (λ o. o.1.number ≢ t.number) (others session os)
 other_numbers session [] t all opened = absurd cc
 other_numbers session (o ∷ os) t all opened =
     elim (nat_eq o.0 session) as (λ b. (if b then Some o.1 else opened_by session os) ≡ Some t → AllByRecursion (λ p. p.1.number ≢ t.number) (cond (not b) (o ∷ others session os) (others session os))) [

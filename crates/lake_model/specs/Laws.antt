@@ -1,5 +1,5 @@
 -- Laws of the definitions: what holds of every legal chronicle.
-use Rattle.std.specs.Prelude.{◌≡◌, ◌≢◌, ℕ, ◌<◌, ◌≤◌, Bool, true, false, List, [], ◌∷◌, Option, None, Some, IfSome, IsSomeAnd, length, map}
+use Rattle.std.specs.Prelude.{◌≡◌, ◌≢◌, ℕ, ◌==◌, ◌<◌, ◌≤◌, Bool, true, false, List, [], ◌∷◌, Option, None, Some, IfSome, IsSomeAnd, length, map}
 use Rattle.std.specs.List.{AllByRecursion, list_all}
 use Rattle.std.specs.Option.{option_map}
 use Rattle.lake_values.specs.Schemas.{AllDistinct, TableColumns}
@@ -56,6 +56,20 @@ pub record IsSound (st : State) : Type 0 where
 -- every legal chronicle leads to such a state
 abbrev pub StatesAreSound : Type 0
 StatesAreSound = (entries : List Noted) → IsLegal true entries → IsSound (state entries)
+
+-- The names of blobs that versions have are of transactions that have ended: their numbers were given, and no open
+-- transaction has one of them.
+pub record NamesAreOfEnded (st : State) : Type 0 where
+  pub given : AllByRecursion (λ ns. AllByRecursion (λ n. n.txn ≤ st.last_number) ns) st.names
+  pub ended :
+      AllByRecursion
+      (λ o. AllByRecursion (λ ns. AllByRecursion (λ n. (n.txn == o.1.number) ≡ false) ns) st.names)
+      st.running
+
+-- so it is in every legal chronicle, whatever is told
+abbrev pub NamesHaveEnded : Type 0
+NamesHaveEnded =
+    (told : Bool) (entries : List Noted) → IsLegal told entries → NamesAreOfEnded (state entries)
 
 -- A statement that ran and changed something counts as a part of its transaction.
 abbrev pub ChangesAreParts : Type 0

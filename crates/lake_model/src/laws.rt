@@ -1,9 +1,15 @@
-ghost use Rattle.lake_model.specs.Laws.{ChangesAreParts, FirstCommitterWins, OneText, StatesAreSound, ViewsStay};
+ghost use Rattle.lake_model.specs.Laws.{ChangesAreParts, FirstCommitterWins, NamesHaveEnded, OneText};
+ghost use Rattle.lake_model.specs.Laws.{StatesAreSound, ViewsStay};
 
 /// What legality alone says of the state of a chronicle: which versions, names and open transactions it has, and that
 /// tables stay.
 pub fn states_are_sound()
     ensures { StatesAreSound }
+{}
+
+/// No version has a blob of a transaction that is open, or whose number wasn't given yet.
+pub fn names_have_ended()
+    ensures { NamesHaveEnded }
 {}
 
 /// What one session does leaves the transactions of all others, and what they see.

@@ -7,7 +7,7 @@ use lake_values::{Listed, Text};
 use sql_model::{Mark, Marks};
 use std::alloc::Global;
 use std::test::Fail;
-use write_set_catalog::{CatRow, Catalog};
+use write_set_catalog::{CatCommit, CatRow, Catalog};
 
 /// Marks of rows of a table that these commits added.
 fn marks(alloc: Global, table: &str, commits: &[u64]) -> Result<Marks, Fail> {
@@ -23,31 +23,37 @@ fn marks(alloc: Global, table: &str, commits: &[u64]) -> Result<Marks, Fail> {
     Ok(Listed::from_list(marks))
 }
 
-/// What a commit did to a table: it removed rows that these commits had added.
-fn row(alloc: Global, seq: u64, table: &str, removed: &[u64]) -> Result<CatRow<DeadPort>, Fail>
-    ensures { IfOk result (λ row. row.seq ≡ seq) }
+/// A commit that removed, of each of these tables, rows that these commits had added.
+fn commit(alloc: Global, seq: u64, tables: &[(&str, &[u64])]) -> Result<CatCommit<DeadPort>, Fail>
+    ensures { IfOk result (λ commit. commit.seq ≡ seq) }
 {
-    Ok(CatRow {
+    let mut rows = Vec::new(alloc);
+    for (table, removed) in tables {
+        rows.push(CatRow {
+            table: Text::new(alloc, table)?,
+            names: Listed::empty(alloc),
+            added: Listed::empty(alloc),
+            dropped: Listed::empty(alloc),
+            marks: marks(alloc, table, removed)?,
+        })?;
+    }
+    Ok(CatCommit {
         seq,
-        table: Text::new(alloc, table)?,
         manifest: None,
-        names: Listed::empty(alloc),
-        added: Listed::empty(alloc),
-        dropped: Listed::empty(alloc),
-        marks: marks(alloc, table, removed)?,
+        blocks: Listed::empty(alloc),
+        rows: Listed::from_list(rows),
     })
 }
 
 /// Commit 1 adds rows to t, 2 removes some of u, 3 some of t, and 4 some of both; 5 adds rows to v.
 fn catalog(alloc: Global) -> Result<Catalog<DeadPort>, Fail> {
     let mut catalog = Catalog::empty(alloc);
-    catalog.reserve(6)?;
-    catalog.append(row(alloc, 1, "t", &[])?);
-    catalog.append(row(alloc, 2, "u", &[1])?);
-    catalog.append(row(alloc, 3, "t", &[1])?);
-    catalog.append(row(alloc, 4, "t", &[1, 1])?);
-    catalog.append(row(alloc, 4, "u", &[1])?);
-    catalog.append(row(alloc, 5, "v", &[])?);
+    catalog.reserve(5)?;
+    catalog.append(commit(alloc, 1, &[("t", &[])])?);
+    catalog.append(commit(alloc, 2, &[("u", &[1])])?);
+    catalog.append(commit(alloc, 3, &[("t", &[1])])?);
+    catalog.append(commit(alloc, 4, &[("t", &[1, 1]), ("u", &[1])])?);
+    catalog.append(commit(alloc, 5, &[("v", &[])])?);
     Ok(catalog)
 }
 

@@ -1,2 +1,3 @@
 pub mod Borrowers
 pub mod Racers
+pub mod Writers

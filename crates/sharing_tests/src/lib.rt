@@ -6,3 +6,5 @@
 mod claim_tests;
 #[cfg(test)]
 mod pool_tests;
+#[cfg(test)]
+mod turn_tests;

@@ -1,3 +1,4 @@
 pub mod CheckpointTies
 pub mod MapChanges
+pub mod NameSets
 pub mod ReplaySteps

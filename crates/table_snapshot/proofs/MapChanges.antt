@@ -44,7 +44,7 @@ by_kind Checkpoint Vector = refl
 by_kind Checkpoint Manifest = refl
 by_kind Checkpoint Checkpoint = refl
 
-alike : (m n : Name) → order.ghosts.cmp m n ≡ name_cmp m n
+pub alike : (m n : Name) → order.ghosts.cmp m n ≡ name_cmp m n
 alike m n =
     ap (λ (r : Ordering). ordering_then r (then_cmp (on (λ x. x.txn) nat_cmp) (then_cmp
     (on (λ x. x.part) nat_cmp)
@@ -86,7 +86,7 @@ abbrev made : Kind → ℕ → ℕ → ℕ → ℕ → Name
 made kind txn part task attempt =
     record { kind = kind; txn = txn; part = part; task = task; attempt = attempt }
 
-told : (m n : Name) → name_cmp m n ≡ Equal → m ≡ n
+pub told : (m n : Name) → name_cmp m n ≡ Equal → m ≡ n
 told m n e =
     let a = both_equal (nat_cmp (kind_rank m.kind) (kind_rank n.kind)) _ e in
     let b = both_equal (nat_cmp m.txn n.txn) _ a.1 in
@@ -305,7 +305,7 @@ below_all : (n : Name) (ns : List Name) → AllByRecursion (λ y. order.ghosts.c
 below_all n [] all = refl
 below_all n (m ∷ ms) all = rw (sym (alike n m) ∙ all.0, below_all n ms all.1) refl
 
-ascend : (ns : List Name) → IsStrictlySortedBy order.ghosts.cmp ns → is_ascending ns ≡ true
+pub ascend : (ns : List Name) → IsStrictlySortedBy order.ghosts.cmp ns → is_ascending ns ≡ true
 unfolding IsStrictlySortedBy
 ascend [] sorted = refl
 ascend (n ∷ ns) sorted = rw (below_all n ns sorted.0, ascend ns sorted.1) refl

@@ -1,5 +1,6 @@
 -- The data files of a table, and what the items of manifests make of them.
-use Rattle.std.specs.Prelude.{ℕ, Bool, not, List, [], ◌∷◌, None, Some, map, filter, if◌then◌else◌}
+use Rattle.std.specs.Prelude.{ℕ, Bool, not, List, [], ◌∷◌, Option, None, Some, map, filter}
+use Rattle.std.specs.Prelude.{if◌then◌else◌}
 use Rattle.std.specs.List.{flat_map}
 use Rattle.std.specs.Ordering.{on}
 use Rattle.std.specs.declared.cmp.Ordering.{Ordering}
@@ -81,3 +82,12 @@ replay_manifest table m files = replay m.seq (items_of table (items_in m)) files
 abbrev pub replay_dated : List ℕ → List Dated → List FileRow → List FileRow
 replay_dated table [] files = files
 replay_dated table (m ∷ ms) files = replay_dated table ms (replay_manifest table m files)
+
+-- the name of a vector, if there is one
+abbrev pub vector_names : Option (Name × ℕ) → List Name
+vector_names None = []
+vector_names (Some v) = v.0 ∷ []
+
+-- the names of the files and their vectors
+abbrev pub names_in : List FileRow → List Name
+names_in files = flat_map (λ f. f.file ∷ vector_names f.vector) files

@@ -1,5 +1,5 @@
--- What rows in the order of their commits say of conflicts.
-use Rattle.std.proofs.Common.{◌≡◌, ℕ, zero, suc, ◌<◌, ◌≤◌, Bool, true, false, ◌&&◌, ◌||◌, nat_eq}
+-- What commits in order say of conflicts.
+use Rattle.std.proofs.Common.{◌≡◌, ℕ, zero, suc, ◌+◌, ◌<◌, ◌≤◌, Bool, true, false, ◌&&◌, ◌||◌, nat_eq}
 use Rattle.std.proofs.Common.{nat_lt, nat_le, List, [], ◌∷◌, ◌++◌, inl, inr, Option, None, Some}
 use Rattle.std.proofs.Common.{map, filter, drop, length, refl, sym, ap, ◌∙◌, subst, arith, cond}
 use Rattle.std.proofs.Common.{eq-eqb}
@@ -10,46 +10,38 @@ use Rattle.std.specs.Option.{option_map}
 use Rattle.sql_model.specs.declared.changes.Mark.{Mark}
 use Rattle.sql_model.specs.Units.{whole_table, same_unit, share_unit, units_of_marks}
 use Rattle.lake_values.specs.Texts.{same_text}
-use Rattle.write_set_catalog.specs.Catalogs.{AreInOrder, AreUpTo, IsLastOrNext, ToldRow}
+use Rattle.write_set_catalog.specs.Catalogs.{AreInOrder, AreUpTo, ToldCommit}
 use Rattle.write_set_catalog.specs.Conflicts.{HasNoConflict, IsFirstConflict, is_conflict}
-use Rattle.write_set_catalog.specs.Conflicts.{writes_one}
+use Rattle.write_set_catalog.specs.Conflicts.{row_writes_one, writes_one}
+use Rattle.write_set_catalog.specs.declared.rows.CatRow.{CatRow}
 
--- a row behind the others
+-- a commit behind the others
 
-behind_one : (r : ToldRow) (rows : List ToldRow) (row : ToldRow) → AllByRecursion
-    (λ s. r.seq ≤ s.seq) rows → r.seq ≤ row.seq → AllByRecursion (λ s. r.seq ≤ s.seq)
+behind_one : (r : ToldCommit) (rows : List ToldCommit) (row : ToldCommit) → AllByRecursion
+    (λ s. r.seq < s.seq) rows → r.seq < row.seq → AllByRecursion (λ s. r.seq < s.seq)
     (rows ++ row ∷ [])
 behind_one r [] row all more = (more, tt)
 behind_one r (s ∷ ss) row all more = (all.0, behind_one r ss row all.1 more)
 
-pub in_order_more : (rows : List ToldRow) (row : ToldRow) → AreInOrder rows → AreUpTo row.seq rows →
-    AreInOrder (rows ++ row ∷ [])
-in_order_more [] row order behind = (tt, tt)
-in_order_more (r ∷ rs) row order behind =
-    (behind_one r rs row order.0 behind.0, in_order_more rs row order.1 behind.1)
+in_order_more : (rows : List ToldCommit) (row : ToldCommit) (last : ℕ) → AreInOrder rows → AreUpTo
+    last rows → row.seq ≡ last + 1 → AreInOrder (rows ++ row ∷ [])
+in_order_more [] row last order behind next = (tt, tt)
+in_order_more (r ∷ rs) row last order behind next = (
+  behind_one r rs row order.0 (omega (arith, behind.0, next)),
+  in_order_more rs row last order.1 behind.1 next,
+)
 
-up_later : (last seq : ℕ) (rows : List ToldRow) → last ≤ seq → AreUpTo last rows → AreUpTo seq rows
-up_later last seq [] later up = tt
-up_later last seq (r ∷ rs) later up =
-    let first = up.0 in
-    (omega arith, up_later last seq rs later up.1)
-
-one_more : (rows : List ToldRow) (row : ToldRow) → AreUpTo row.seq rows → AreUpTo row.seq
-    (rows ++ row ∷ [])
-one_more [] row up = (omega arith, tt)
-one_more (r ∷ rs) row up = (up.0, one_more rs row up.1)
-
-not_before : (last seq : ℕ) → IsLastOrNext last seq → last ≤ seq
-not_before last seq (inl e) = omega arith
-not_before last seq (inr e) = omega arith
+up_more : (rows : List ToldCommit) (row : ToldCommit) (last : ℕ) → AreUpTo last rows → row.seq ≡
+    last + 1 → AreUpTo row.seq (rows ++ row ∷ [])
+up_more [] row last up next = (omega arith, tt)
+up_more (r ∷ rs) row last up next = (omega (arith, up.0, next), up_more rs row last up.1 next)
 
 pub appended :
-    (rows new : List ToldRow) (row : ToldRow) (last : ℕ) → new ≡ rows ++ row ∷ []
-    → AreInOrder rows × AreUpTo last rows → IsLastOrNext last row.seq
+    (rows new : List ToldCommit) (row : ToldCommit) (last : ℕ) → new ≡ rows ++ row ∷ []
+    → AreInOrder rows × AreUpTo last rows → row.seq ≡ last + 1
     → AreInOrder new × AreUpTo row.seq new
 appended rows new row last is was next =
-    let up = up_later last row.seq rows (not_before last row.seq next) was.1 in
-    rw is (in_order_more rows row was.0 up, one_more rows row up)
+    rw is (in_order_more rows row last was.0 was.1 next, up_more rows row last was.1 next)
 
 -- which tables marks name
 
@@ -67,8 +59,8 @@ or_false : (b : Bool) → (b || false) ≡ b
 or_false true = refl
 or_false false = refl
 
-pub writes_some : (row : ToldRow) (mark : Mark) (rest marks : List Mark) → row.marks ≡ mark ∷ rest →
-    writes_one marks row ≡ list_any (λ m. same_text row.table m.table) marks
+pub writes_some : (row : CatRow) (mark : Mark) (rest marks : List Mark) → row.marks ≡ mark ∷ rest →
+    row_writes_one marks row ≡ list_any (λ m. same_text row.table m.table) marks
 writes_some row mark rest marks is =
     ap (λ (ms : List Mark). share_unit (map (λ (m : Mark). whole_table row.table) ms)
     (units_of_marks marks)) is ∙ each rest ∙ names_mapped row.table marks
@@ -80,26 +72,26 @@ writes_some row mark rest marks is =
         (λ (b : Bool). list_any (same_unit (whole_table row.table)) (units_of_marks marks) || b)
         (each ms) ∙ or_same (list_any (same_unit (whole_table row.table)) (units_of_marks marks))
 
-pub writes_where_any : (row : ToldRow) (marks : List Mark) → (row.marks ≡ [] → ⊥) → writes_one marks
-    row ≡ list_any (λ m. same_text row.table m.table) marks
+pub writes_where_any : (row : CatRow) (marks : List Mark) → (row.marks ≡ [] → ⊥) →
+    row_writes_one marks row ≡ list_any (λ m. same_text row.table m.table) marks
 writes_where_any row marks some =
-    elim row.marks as (λ ms. row.marks ≡ ms → writes_one marks row ≡ list_any
+    elim row.marks as (λ ms. row.marks ≡ ms → row_writes_one marks row ≡ list_any
     (λ m. same_text row.table m.table) marks) [
       | [] ↦ λ e. absurd (some e)
       | (m ∷ ms) ↦ λ e. writes_some row m ms marks e
     ] refl
 
--- the rows of later commits are those behind the first of them
+-- the later commits are those behind the first of them
 
-pub drop_filter : (p : ToldRow → Bool) (rows : List ToldRow) (n : ℕ) → n ≤ length rows →
-    ((k : ℕ) (d : ToldRow) → k < n → p (slice_index_or rows k d) ≡ false) →
-    ((k : ℕ) (d : ToldRow) → n ≤ k → k < length rows → p (slice_index_or rows k d) ≡ true) → drop n
+pub drop_filter : (p : ToldCommit → Bool) (rows : List ToldCommit) (n : ℕ) → n ≤ length rows →
+    ((k : ℕ) (d : ToldCommit) → k < n → p (slice_index_or rows k d) ≡ false) →
+    ((k : ℕ) (d : ToldCommit) → n ≤ k → k < length rows → p (slice_index_or rows k d) ≡ true) → drop n
     rows ≡ filter p rows
 drop_filter p [] zero within before behind = refl
 drop_filter p [] (suc n) within before behind = absurd (omega arith)
 drop_filter p (r ∷ rs) zero within before behind =
     let first : p r ≡ true = behind 0 r (omega arith) (omega arith) in
-    rw first (ap (λ (xs : List ToldRow). r ∷ xs) (drop_filter p rs zero (omega arith)
+    rw first (ap (λ (xs : List ToldCommit). r ∷ xs) (drop_filter p rs zero (omega arith)
     (λ k d h. absurd (omega arith))
     (λ k d h less. behind (suc k) d (omega arith) (omega arith))))
 drop_filter p (r ∷ rs) (suc n) within before behind =
@@ -107,9 +99,9 @@ drop_filter p (r ∷ rs) (suc n) within before behind =
     rw first (drop_filter p rs n (omega arith) (λ k d h. before (suc k) d (omega arith))
     (λ k d h less. behind (suc k) d (omega arith) (omega arith)))
 
--- the first of the later rows that wrote a unit is the first that conflicts
+-- the first of the later commits that wrote a unit is the first that conflicts
 
-pub find_later : (snapshot : ℕ) (marks : List Mark) (rows : List ToldRow) → find (writes_one marks)
+pub find_later : (snapshot : ℕ) (marks : List Mark) (rows : List ToldCommit) → find (writes_one marks)
     (filter (λ row. nat_lt snapshot row.seq) rows) ≡ find (is_conflict snapshot marks) rows
 find_later snapshot marks [] = refl
 find_later snapshot marks (r ∷ rs) =
@@ -117,24 +109,25 @@ find_later snapshot marks (r ∷ rs) =
     (r ∷ filter (λ row. nat_lt snapshot row.seq) rs)
     (filter (λ row. nat_lt snapshot row.seq) rs)) ≡ cond (b && writes_one marks r) (Some r)
     (find (is_conflict snapshot marks) rs)) [
-      | true ↦ ap (λ (o : Option ToldRow). cond (writes_one marks r) (Some r) o)
+      | true ↦ ap (λ (o : Option ToldCommit). cond (writes_one marks r) (Some r) o)
           (find_later snapshot marks rs)
       | false ↦ find_later snapshot marks rs
     ]
 
--- the rows rise by their commits
+-- the commits rise
 
-from_first : (r : ToldRow) (rs : List ToldRow) → AllByRecursion (λ s. r.seq ≤ s.seq) rs → (j : ℕ)
-    (d : ToldRow) → j < length rs → r.seq ≤ (slice_index_or rs j d).seq
+from_first : (r : ToldCommit) (rs : List ToldCommit) → AllByRecursion (λ s. r.seq < s.seq) rs → (j : ℕ)
+    (d : ToldCommit) → j < length rs → r.seq < (slice_index_or rs j d).seq
 from_first r [] all j d less = absurd (omega arith)
 from_first r (s ∷ ss) all zero d less = all.0
 from_first r (s ∷ ss) all (suc j) d less = from_first r ss all.1 j d (omega arith)
 
-pub rises : (rows : List ToldRow) → AreInOrder rows → (i j : ℕ) (d : ToldRow) → i ≤ j → j < length
+pub rises : (rows : List ToldCommit) → AreInOrder rows → (i j : ℕ) (d : ToldCommit) → i ≤ j → j < length
     rows → (slice_index_or rows i d).seq ≤ (slice_index_or rows j d).seq
 rises [] order i j d le less = absurd (omega arith)
 rises (r ∷ rs) order zero zero d le less = omega arith
-rises (r ∷ rs) order zero (suc j) d le less = from_first r rs order.0 j d (omega arith)
+rises (r ∷ rs) order zero (suc j) d le less =
+    omega (arith, from_first r rs order.0 j d (omega arith))
 rises (r ∷ rs) order (suc i) zero d le less = absurd (omega arith)
 rises (r ∷ rs) order (suc i) (suc j) d le less = rises rs order.1 i j d (omega arith) (omega arith)
 
@@ -144,7 +137,7 @@ later_or_not m n e = grind arith
 later_so : (m n : ℕ) → nat_le m n ≡ false → nat_lt n m ≡ true
 later_so m n e = grind arith
 
-pub later_are : (rows : List ToldRow) (snapshot n : ℕ) → n ≤ length rows → IsPartitionPoint
+pub later_are : (rows : List ToldCommit) (snapshot n : ℕ) → n ≤ length rows → IsPartitionPoint
     (λ r. nat_le r.seq snapshot ≡ true) (λ r. nat_le r.seq snapshot ≡ false) rows n →
     drop n rows ≡ filter (λ row. nat_lt snapshot row.seq) rows
 later_are rows snapshot n within split =
@@ -152,18 +145,18 @@ later_are rows snapshot n within split =
     (λ k d h. later_or_not (slice_index_or rows k d).seq snapshot (split.0 k d (omega arith) h))
     (λ k d h less. later_so (slice_index_or rows k d).seq snapshot (split.1 k d h less))
 
--- what the first row that conflicts says
+-- what the first commit that conflicts says
 
-least_from : (snapshot : ℕ) (marks : List Mark) (seq : ℕ) (rows : List ToldRow) → AllByRecursion
-    (λ s. seq ≤ s.seq) rows → AllByRecursion
+least_from : (snapshot : ℕ) (marks : List Mark) (seq : ℕ) (rows : List ToldCommit) → AllByRecursion
+    (λ s. seq < s.seq) rows → AllByRecursion
     (λ r. is_conflict snapshot marks r ≡ true → seq ≤ r.seq) rows
 least_from snapshot marks seq [] all = tt
-least_from snapshot marks seq (r ∷ rs) all = (λ e. all.0, least_from snapshot marks seq rs all.1)
+least_from snapshot marks seq (r ∷ rs) all = (λ e. omega (arith, all.0), least_from snapshot marks seq rs all.1)
 
 same_number : (n : ℕ) → nat_eq n n ≡ true
 same_number n = eq-eqb n n refl
 
-pub found_first : (snapshot : ℕ) (marks : List Mark) (rows : List ToldRow) (row : ToldRow) →
+pub found_first : (snapshot : ℕ) (marks : List Mark) (rows : List ToldCommit) (row : ToldCommit) →
     AreInOrder rows → find (is_conflict snapshot marks) rows ≡ Some row → IsFirstConflict snapshot
     marks rows row.seq
 found_first snapshot marks [] row order found = absurd cc
@@ -173,7 +166,7 @@ found_first snapshot marks (r ∷ rs) row order found =
     (r ∷ rs) row.seq) [
       | true ↦ λ e is.
           let same : r ≡ row = cc in
-          subst (λ (x : ToldRow). IsFirstConflict snapshot marks (r ∷ rs) x.seq) same
+          subst (λ (x : ToldCommit). IsFirstConflict snapshot marks (r ∷ rs) x.seq) same
           record {
             there = rw e (rw same_number refl);
             least =
@@ -188,7 +181,7 @@ found_first snapshot marks (r ∷ rs) row order found =
           }
     ] refl found
 
-pub found_none : (snapshot : ℕ) (marks : List Mark) (rows : List ToldRow) → find
+pub found_none : (snapshot : ℕ) (marks : List Mark) (rows : List ToldCommit) → find
     (is_conflict snapshot marks) rows ≡ None → HasNoConflict snapshot marks rows
 found_none snapshot marks [] none = refl
 found_none snapshot marks (r ∷ rs) none =
@@ -199,27 +192,27 @@ found_none snapshot marks (r ∷ rs) none =
       | false ↦ λ is. found_none snapshot marks rs is
     ] none
 
--- what a search through the later rows answers
+-- what a search through the later commits answers
 
-found_answer : (snapshot : ℕ) (marks : List Mark) (rows : List ToldRow) (found : Option ToldRow) →
+found_answer : (snapshot : ℕ) (marks : List Mark) (rows : List ToldCommit) (found : Option ToldCommit) →
     AreInOrder rows → find (is_conflict snapshot marks) rows ≡ found →
-    IfSome (option_map (λ (r : ToldRow). r.seq) found) (IsFirstConflict snapshot marks rows)
+    IfSome (option_map (λ (r : ToldCommit). r.seq) found) (IsFirstConflict snapshot marks rows)
 found_answer snapshot marks rows None order is = tt
 found_answer snapshot marks rows (Some row) order is = found_first snapshot marks rows row order is
 
-none_answer : (snapshot : ℕ) (marks : List Mark) (rows : List ToldRow) (found : Option ToldRow) →
+none_answer : (snapshot : ℕ) (marks : List Mark) (rows : List ToldCommit) (found : Option ToldCommit) →
     find (is_conflict snapshot marks) rows ≡ found →
-    IfNone (option_map (λ (r : ToldRow). r.seq) found) (HasNoConflict snapshot marks rows)
+    IfNone (option_map (λ (r : ToldCommit). r.seq) found) (HasNoConflict snapshot marks rows)
 none_answer snapshot marks rows None is = found_none snapshot marks rows is
 none_answer snapshot marks rows (Some row) is = tt
 
-module _ (snapshot : ℕ) (marks : List Mark) (rows later : List ToldRow) (answer : Option ℕ)
+module _ (snapshot : ℕ) (marks : List Mark) (rows later : List ToldCommit) (answer : Option ℕ)
     (order : AreInOrder rows) (later_is : later ≡ filter (λ row. nat_lt snapshot row.seq) rows)
-    (answer_is : answer ≡ option_map (λ (r : ToldRow). r.seq) (find (writes_one marks) later)) where
-  searched : answer ≡ option_map (λ (r : ToldRow). r.seq) (find (is_conflict snapshot marks) rows)
+    (answer_is : answer ≡ option_map (λ (r : ToldCommit). r.seq) (find (writes_one marks) later)) where
+  searched : answer ≡ option_map (λ (r : ToldCommit). r.seq) (find (is_conflict snapshot marks) rows)
   searched = answer_is ∙ ap
-      (λ (rs : List ToldRow). option_map (λ (r : ToldRow). r.seq) (find (writes_one marks) rs))
-      later_is ∙ ap (option_map (λ (r : ToldRow). r.seq)) (find_later snapshot marks rows)
+      (λ (rs : List ToldCommit). option_map (λ (r : ToldCommit). r.seq) (find (writes_one marks) rs))
+      later_is ∙ ap (option_map (λ (r : ToldCommit). r.seq)) (find_later snapshot marks rows)
 
   pub found_among : IfSome answer (IsFirstConflict snapshot marks rows)
   found_among = let P : Option ℕ → Type 0 = λ a. IfSome a (IsFirstConflict snapshot marks rows) in

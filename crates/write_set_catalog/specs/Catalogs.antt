@@ -1,21 +1,18 @@
 -- What a catalogue holds. A blob is its name and the bytes that its port tells.
-use Rattle.std.specs.Prelude.{◌≡◌, ◌+◌, ◌⊎◌, ℕ, ◌==◌, ◌≤◌, not, List, [], ◌∷◌, ◌++◌, Option, filter}
+use Rattle.std.specs.Prelude.{ℕ, ◌==◌, ◌<◌, ◌≤◌, not, List, [], ◌∷◌, ◌++◌, Option, filter}
 use Rattle.std.specs.List.{AllByRecursion}
-use Rattle.lake_values.specs.declared.names.Name.{Name}
 use Rattle.lake_outside.specs.Ports.{ToldBlob}
-use Rattle.sql_model.specs.declared.changes.Mark.{Mark}
+use Rattle.manifest_block.specs.declared.items.Item.{Item}
+use Rattle.write_set_catalog.specs.declared.rows.CatRow.{CatRow}
 use Rattle.write_set_catalog.specs.declared.running.RunningTxn.{RunningTxn}
 use Rattle.write_set_catalog.specs.declared.tables.CatTable.{CatTable}
 
--- what a commit did to a table
-pub record ToldRow : Type 0 where
+-- a commit: its manifest, the items of that in their blocks, and what it did to each table
+pub record ToldCommit : Type 0 where
   pub seq : ℕ
-  pub table : List ℕ
   pub manifest : Option ToldBlob
-  pub names : List Name
-  pub added : List Name
-  pub dropped : List Name
-  pub marks : List Mark
+  pub blocks : List (List Item)
+  pub rows : List CatRow
 
 -- a checkpoint of a table at a version, and the number of the last transaction before its own
 pub record ToldCheck : Type 0 where
@@ -26,7 +23,7 @@ pub record ToldCheck : Type 0 where
 
 pub record Catalogue : Type 0 where
   pub tables : List CatTable
-  pub rows : List ToldRow
+  pub commits : List ToldCommit
   pub checks : List ToldCheck
   pub blobs : List ToldBlob
   pub running : List RunningTxn
@@ -38,7 +35,7 @@ pub record Catalogue : Type 0 where
 abbrev pub empty : Catalogue
 empty = record {
   tables = [];
-  rows = [];
+  commits = [];
   checks = [];
   blobs = [];
   running = [];
@@ -47,32 +44,28 @@ empty = record {
   floor = 0;
 }
 
--- a catalogue, and how many rows and blobs more it has room for
+-- a catalogue, and how many commits and blobs more it has room for
 pub record Catalogued : Type 0 where
   pub catalogue : Catalogue
-  pub spare_rows : ℕ
+  pub spare_commits : ℕ
   pub spare_blobs : ℕ
 
--- the rows stand in the order of their commits
-abbrev pub AreInOrder : List ToldRow → Type 0
+-- each commit is later than those before it
+abbrev pub AreInOrder : List ToldCommit → Type 0
 AreInOrder [] = Unit {0}
-AreInOrder (r ∷ rs) = AllByRecursion (λ s. r.seq ≤ s.seq) rs × AreInOrder rs
+AreInOrder (c ∷ cs) = AllByRecursion (λ d. c.seq < d.seq) cs × AreInOrder cs
 
--- none is of a later commit than this one
-abbrev pub AreUpTo : ℕ → List ToldRow → Type 0
-AreUpTo last rows = AllByRecursion (λ r. r.seq ≤ last) rows
-
--- the last version's number, or the next one's
-abbrev pub IsLastOrNext : ℕ → ℕ → Type 0
-IsLastOrNext last seq = (seq ≡ last) ⊎ (seq ≡ last + 1)
+-- none is later than this one
+abbrev pub AreUpTo : ℕ → List ToldCommit → Type 0
+AreUpTo last commits = AllByRecursion (λ c. c.seq ≤ last) commits
 
 -- each call gives one of these
 
 abbrev pub with_table : CatTable → Catalogue → Catalogue
 with_table table c = record c { tables = c.tables ++ table ∷ []; last = table.since }
 
-abbrev pub with_row : ToldRow → Catalogue → Catalogue
-with_row row c = record c { rows = c.rows ++ row ∷ []; last = row.seq }
+abbrev pub with_commit : ToldCommit → Catalogue → Catalogue
+with_commit commit c = record c { commits = c.commits ++ commit ∷ []; last = commit.seq }
 
 abbrev pub with_check : ToldCheck → Catalogue → Catalogue
 with_check check c = record c { checks = c.checks ++ check ∷ [] }

@@ -1,11 +1,12 @@
 -- Which names the rows of a catalogue give to the tables of a version.
-use Rattle.std.specs.Prelude.{ℕ, Bool, ◌&&◌, not, List, Option, nat_le, nat_lt}
+use Rattle.std.specs.Prelude.{ℕ, Bool, ◌&&◌, map, not, List, Option, nat_le, nat_lt}
 use Rattle.std.specs.List.{list_any}
 use Rattle.std.specs.Option.{option_map}
 use Rattle.lake_values.specs.declared.names.Name.{Name}
 use Rattle.lake_values.specs.Names.{is_among}
 use Rattle.lake_values.specs.Texts.{same_text}
-use Rattle.write_set_catalog.specs.Catalogs.{ToldRow}
+use Rattle.write_set_catalog.specs.Catalogs.{ToldCommit}
+use Rattle.write_set_catalog.specs.declared.rows.CatRow.{CatRow}
 
 -- a row's commit and table, its manifest's name, and the names that the table gained and lost
 pub record NamesRow : Type 0 where
@@ -15,14 +16,18 @@ pub record NamesRow : Type 0 where
   pub added : List Name
   pub dropped : List Name
 
-abbrev pub names_of : ToldRow → NamesRow
-names_of r = record {
-  seq = r.seq;
+-- those of a commit
+abbrev pub names_of_row : ℕ → Option Name → CatRow → NamesRow
+names_of_row seq manifest r = record {
+  seq = seq;
   table = r.table;
-  manifest = option_map (λ b. b.name) r.manifest;
+  manifest = manifest;
   added = r.added;
   dropped = r.dropped;
 }
+
+abbrev pub names_of : ToldCommit → List NamesRow
+names_of commit = map (names_of_row commit.seq (option_map (λ b. b.name) commit.manifest)) commit.rows
 
 -- up to this version a later row of the table than the one of this commit drops the name
 abbrev pub drops : ℕ → NamesRow → Name → NamesRow → Bool

@@ -2,11 +2,10 @@ ghost use Rattle.std.specs.Prelude.{◌≡◌, ◌+◌, ◌<◌, ◌≤◌, ◌^
 ghost use Rattle.std.specs.Prelude.{map};
 ghost use Rattle.lake_outside.specs.Ports.{told_blob};
 ghost use Rattle.write_set_catalog.specs.Catalogs as said;
-ghost use Rattle.write_set_catalog.specs.Catalogs.{IsLastOrNext};
 ghost use Rattle.write_set_catalog.specs.Conflicts.{HasNoConflict, IsFirstConflict};
 
-use crate::conflicts::{first_writer, later_rows};
-use crate::{CatCheck, CatRow, CatTable, RunningTxn};
+use crate::conflicts::{first_writer, later_commits};
+use crate::{CatCheck, CatCommit, CatTable, RunningTxn};
 use lake_outside::Port;
 use lake_values::{NoMemory, Schema, Text};
 use sql_model::Marks;
@@ -14,11 +13,11 @@ use std::alloc::Global;
 use std::marker::Model;
 
 /// What a lake knows of its commits, checkpoints and open transactions without going through the
-/// chronicle. Contracts see it as plain data, and how many rows and blobs more it has room for.
+/// chronicle. Contracts see it as plain data, and how many commits and blobs more it has room for.
 #[derive(Drop)]
 pub struct Catalog<P: Port> {
     tables: Vec<CatTable>,
-    rows: Vec<CatRow<P>>,
+    commits: Vec<CatCommit<P>>,
     checks: Vec<CatCheck<P>>,
     blobs: Vec<P::Blob>,
     running: Vec<RunningTxn>,
@@ -37,7 +36,7 @@ impl<P: Port> Model for Catalog<P> {
     ghost view = { λ c. record {
       catalogue = record {
         tables = c.tables.items;
-        rows = c.rows.items;
+        commits = c.commits.items;
         checks = c.checks.items;
         blobs = map (told_blob P.Blob.name P.Blob.bytes) c.blobs.items;
         running = c.running.items;
@@ -45,11 +44,11 @@ impl<P: Port> Model for Catalog<P> {
         last_number = c.last_number;
         floor = c.floor;
       };
-      spare_rows = vec_capacity c.rows - vec_len c.rows;
+      spare_commits = vec_capacity c.commits - vec_len c.commits;
       spare_blobs = vec_capacity c.blobs - vec_len c.blobs;
     } };
 
-    ghost invariant = { λ c. AreInOrder c.rows.items × AreUpTo c.last c.rows.items };
+    ghost invariant = { λ c. AreInOrder c.commits.items × AreUpTo c.last c.commits.items };
 }
 
 impl<P: Port> Catalog<P> {
@@ -59,7 +58,7 @@ impl<P: Port> Catalog<P> {
     {
         Catalog {
             tables: Vec::new(alloc),
-            rows: Vec::new(alloc),
+            commits: Vec::new(alloc),
             checks: Vec::new(alloc),
             blobs: Vec::new(alloc),
             running: Vec::new(alloc),
@@ -76,11 +75,11 @@ impl<P: Port> Catalog<P> {
         self.tables.as_slice()
     }
 
-    /// The rows, in the order of their commits.
-    pub fn rows(&self) -> &[CatRow<P>]
-        ensures { result.now ≡ self.now.catalogue.rows }
+    /// The commits, in order.
+    pub fn commits(&self) -> &[CatCommit<P>]
+        ensures { result.now ≡ self.now.catalogue.commits }
     {
-        self.rows.as_slice()
+        self.commits.as_slice()
     }
 
     /// The checkpoints, in the order in which they were written.
@@ -129,10 +128,10 @@ impl<P: Port> Catalog<P> {
     /// these marks. It looks at the rows of later commits alone.
     pub fn first_conflict(&self, snapshot: u64, marks: &Marks) -> Option<u64>
         ensures found { IfSome result
-            (IsFirstConflict snapshot marks.now self.now.catalogue.rows) }
-        ensures none { IfNone result (HasNoConflict snapshot marks.now self.now.catalogue.rows) }
+            (IsFirstConflict snapshot marks.now self.now.catalogue.commits) }
+        ensures none { IfNone result (HasNoConflict snapshot marks.now self.now.catalogue.commits) }
     {
-        first_writer(later_rows(self.rows.as_slice(), snapshot), marks)
+        first_writer(later_commits(self.commits.as_slice(), snapshot), marks)
     }
 
     /// Puts a table that the next version creates behind the others.
@@ -143,7 +142,7 @@ impl<P: Port> Catalog<P> {
             self.old.catalogue) }
         ensures number { IfOk result (λ seq. seq ≡ self.new.catalogue.last) }
         ensures err { OnErr result (self.new.catalogue ≡ self.old.catalogue) }
-        ensures rows_room { self.new.spare_rows ≡ self.old.spare_rows }
+        ensures commits_room { self.new.spare_commits ≡ self.old.spare_commits }
         ensures blobs_room { self.new.spare_blobs ≡ self.old.spare_blobs }
     {
         let since = self.last + 1;
@@ -163,7 +162,7 @@ impl<P: Port> Catalog<P> {
             (record { number = number; snapshot = snapshot }) self.old.catalogue) }
         ensures number { IfOk result (λ number. number ≡ self.old.catalogue.last_number + 1) }
         ensures err { OnErr result (self.new.catalogue ≡ self.old.catalogue) }
-        ensures rows_room { self.new.spare_rows ≡ self.old.spare_rows }
+        ensures commits_room { self.new.spare_commits ≡ self.old.spare_commits }
         ensures blobs_room { self.new.spare_blobs ≡ self.old.spare_blobs }
     {
         let number = self.last_number + 1;
@@ -186,21 +185,21 @@ impl<P: Port> Catalog<P> {
         ensures ok { OnOk result
             (self.new.catalogue ≡ said.with_check check self.old.catalogue) }
         ensures err { OnErr result (self.new.catalogue ≡ self.old.catalogue) }
-        ensures rows_room { self.new.spare_rows ≡ self.old.spare_rows }
+        ensures commits_room { self.new.spare_commits ≡ self.old.spare_commits }
         ensures blobs_room { self.new.spare_blobs ≡ self.old.spare_blobs }
     {
         self.checks.push(check)?;
         Ok(())
     }
 
-    /// Makes room for more rows.
-    pub fn reserve(&mut self, rows: u64) -> Result<(), NoMemory>
+    /// Makes room for more commits.
+    pub fn reserve(&mut self, commits: u64) -> Result<(), NoMemory>
         ensures same { self.new.catalogue ≡ self.old.catalogue }
-        ensures room { OnOk result (rows ≤ self.new.spare_rows) }
-        ensures keeps { self.old.spare_rows ≤ self.new.spare_rows }
+        ensures room { OnOk result (commits ≤ self.new.spare_commits) }
+        ensures keeps { self.old.spare_commits ≤ self.new.spare_commits }
         ensures blobs_room { self.new.spare_blobs ≡ self.old.spare_blobs }
     {
-        self.rows.reserve(rows as usize)?;
+        self.commits.reserve(commits as usize)?;
         Ok(())
     }
 
@@ -209,23 +208,22 @@ impl<P: Port> Catalog<P> {
         ensures same { self.new.catalogue ≡ self.old.catalogue }
         ensures room { OnOk result (blobs ≤ self.new.spare_blobs) }
         ensures keeps { self.old.spare_blobs ≤ self.new.spare_blobs }
-        ensures rows_room { self.new.spare_rows ≡ self.old.spare_rows }
+        ensures commits_room { self.new.spare_commits ≡ self.old.spare_commits }
     {
         self.blobs.reserve(blobs as usize)?;
         Ok(())
     }
 
-    /// Puts a row of the next commit, or a further one of the last, behind the others. It takes no
-    /// memory.
-    pub fn append(&mut self, row: CatRow<P>)
-        requires room { 0 < self.old.spare_rows }
-        requires order { IsLastOrNext self.old.catalogue.last row.seq }
-        ensures row { self.new.catalogue ≡ said.with_row row self.old.catalogue }
-        ensures room { self.old.spare_rows ≤ self.new.spare_rows + 1 }
+    /// Puts the next commit behind the others. It takes no memory.
+    pub fn append(&mut self, commit: CatCommit<P>)
+        requires room { 0 < self.old.spare_commits }
+        requires next { commit.seq ≡ self.old.catalogue.last + 1 }
+        ensures commit { self.new.catalogue ≡ said.with_commit commit self.old.catalogue }
+        ensures room { self.old.spare_commits ≤ self.new.spare_commits + 1 }
         ensures blobs_room { self.new.spare_blobs ≡ self.old.spare_blobs }
     {
-        self.last = row.seq;
-        self.rows.push_reserved(row);
+        self.last = commit.seq;
+        self.commits.push_reserved(commit);
     }
 
     /// Puts the blob of a file or a vector behind the others. It takes no memory.
@@ -234,7 +232,7 @@ impl<P: Port> Catalog<P> {
         ensures blob { self.new.catalogue
             ≡ said.with_blob (told_blob P.Blob.name P.Blob.bytes blob) self.old.catalogue }
         ensures room { self.old.spare_blobs ≤ self.new.spare_blobs + 1 }
-        ensures rows_room { self.new.spare_rows ≡ self.old.spare_rows }
+        ensures commits_room { self.new.spare_commits ≡ self.old.spare_commits }
     {
         self.blobs.push_reserved(blob);
     }

@@ -1,41 +1,49 @@
-//! Which rows of a catalogue conflict with a transaction.
+//! Which commits of a catalogue conflict with a transaction.
 
 ghost use Rattle.std.specs.Prelude.{◌≡◌, filter, find, nat_lt};
 ghost use Rattle.std.specs.List.{list_any};
 ghost use Rattle.std.specs.Option.{option_map};
 ghost use Rattle.lake_values.specs.Texts.{same_text};
 ghost use Rattle.write_set_catalog.specs.Catalogs.{AreInOrder};
-ghost use Rattle.write_set_catalog.specs.Conflicts.{writes_one};
+ghost use Rattle.write_set_catalog.specs.Conflicts as said;
 
-use crate::CatRow;
+use crate::{CatCommit, CatRow};
 use lake_outside::Port;
 use lake_values::Text;
 use sql_model::Marks;
 
-/// The rows of the commits after a snapshot.
-pub fn later_rows<P: Port>(rows: &[CatRow<P>], snapshot: u64) -> &[CatRow<P>]
-    requires { AreInOrder rows.now }
-    ensures { result.now ≡ filter (λ row. nat_lt snapshot row.seq) rows.now }
+/// The commits after a snapshot.
+pub fn later_commits<P: Port>(commits: &[CatCommit<P>], snapshot: u64) -> &[CatCommit<P>]
+    requires { AreInOrder commits.now }
+    ensures { result.now ≡ filter (λ commit. nat_lt snapshot commit.seq) commits.now }
 {
-    let before = rows.partition_point(|row| row.seq <= snapshot);
-    rows.split_at(before).1
+    let before = commits.partition_point(|commit| commit.seq <= snapshot);
+    commits.split_at(before).1
 }
 
-/// The commit of the first row that wrote a unit of the marks.
-pub fn first_writer<P: Port>(rows: &[CatRow<P>], marks: &Marks) -> Option<u64>
-    ensures { result ≡ option_map (λ row. row.seq) (find (writes_one marks.now) rows.now) }
+/// The number of the first commit that wrote a unit of the marks.
+pub fn first_writer<P: Port>(commits: &[CatCommit<P>], marks: &Marks) -> Option<u64>
+    ensures { result
+        ≡ option_map (λ commit. commit.seq) (find (said.writes_one marks.now) commits.now) }
 {
-    for row in rows {
-        if writes_one(row, marks) {
-            return Some(row.seq);
+    for commit in commits {
+        if writes_one(commit.rows.as_slice(), marks) {
+            return Some(commit.seq);
         }
     }
     None
 }
 
+/// Whether one of a commit's rows wrote a unit of the marks.
+fn writes_one(rows: &[CatRow], marks: &Marks) -> bool
+    ensures { result ≡ list_any (said.row_writes_one marks.now) rows.now }
+{
+    rows.iter().any(|row| row_writes_one(row, marks))
+}
+
 /// Whether the row's commit removed a row of a table that one of the marks names.
-fn writes_one<P: Port>(row: &CatRow<P>, marks: &Marks) -> bool
-    ensures { result ≡ writes_one marks.now row.now }
+fn row_writes_one(row: &CatRow, marks: &Marks) -> bool
+    ensures { result ≡ said.row_writes_one marks.now row.now }
 {
     !row.marks.is_empty() && name_table(marks, &row.table)
 }

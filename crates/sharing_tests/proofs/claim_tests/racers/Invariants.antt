@@ -1,5 +1,5 @@
-use Rattle.std.proofs.Common.{◌<◌, ◌≡◌, All}
-use Rattle.race_claim.specs.Seats.{IsSeatOf, task_count}
+use Rattle.std.proofs.Common.{All}
+use Rattle.race_claim.specs.Seats.{IsSeatOf}
 use Rattle.sharing_tests.specs.Racers.{IsReady}
 use Rattle.sharing_tests.proofs.claim_tests.racers.Given as goal
 

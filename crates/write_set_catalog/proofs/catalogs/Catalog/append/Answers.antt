@@ -1,14 +1,14 @@
-use Rattle.std.proofs.Common.{ap, subst, sym}
-use Rattle.write_set_catalog.specs.Catalogs.{AreInOrder, AreUpTo, Catalogued, IsLastOrNext, ToldRow}
+use Rattle.std.proofs.Common.{◌≡◌, ◌+◌, ap, subst, sym, ℕ}
+use Rattle.write_set_catalog.specs.Catalogs.{AreInOrder, AreUpTo, Catalogued, ToldCommit}
 use Rattle.write_set_catalog.proofs.ConflictLemmas.{appended}
 use Rattle.write_set_catalog.proofs.catalogs.Catalog.append.Goals as goal
 
 pub invariant_of-self : goal.invariant_of-self
 invariant_of-self g c =
     let last = ap (λ (seen : Catalogued). seen.catalogue.last) c.self.view_is in
-    let next = subst (λ l. IsLastOrNext l c.args.row.seq) (sym last) c.requires.order in
+    let next = subst (λ (l : ℕ). c.args.commit.seq ≡ l + 1) (sym last) c.requires.next in
     let more = c.push_reserved.new.self.items in
-    subst (λ seq. AreInOrder more × AreUpTo seq more)
-    (sym (ap (λ (row : ToldRow). row.seq) c.row.view_is))
-    (appended c.self.inside.rows.items more c.args.row _ c.push_reserved.ensures.items
+    subst (λ (seq : ℕ). AreInOrder more × AreUpTo seq more)
+    (sym (ap (λ (commit : ToldCommit). commit.seq) c.commit.view_is))
+    (appended c.self.inside.commits.items more c.args.commit _ c.push_reserved.ensures.items
     c.self.invariant next)

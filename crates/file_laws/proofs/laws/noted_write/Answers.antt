@@ -1,0 +1,5 @@
+use Rattle.file_laws.proofs.NoteKept as law
+use Rattle.file_laws.proofs.laws.noted_write.Goals as goal
+
+pub returns : goal.returns
+returns c = law.noted_write

@@ -1,0 +1,5 @@
+use Rattle.lake_laws.proofs.Entries as law
+use Rattle.lake_laws.proofs.laws.stands_ended.Goals as goal
+
+pub returns : goal.returns
+returns c = law.stands_ended

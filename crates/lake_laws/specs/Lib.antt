@@ -1,0 +1,5 @@
+pub mod Chronicles
+pub mod Books
+pub mod Standing
+pub mod Laws
+pub mod Example

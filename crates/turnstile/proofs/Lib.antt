@@ -1,0 +1,14 @@
+pub mod Sums
+pub mod Sessions
+pub mod Places
+pub mod Slots
+pub mod Seats
+pub mod Rules
+pub mod Opens
+pub mod Draws
+pub mod Looks
+pub mod Publishes
+pub mod Serves
+pub mod Cuts
+pub mod Meets
+pub mod Closes
